@@ -1,0 +1,7 @@
+-- The integers of lib.IntN with the order of lib.Signed: the laws that the proofs of every crate above cite. Assumes nothing.
+pub mod Ring
+pub mod Solver
+pub mod Linear
+pub mod Order
+pub mod Sum
+pub mod Bounds
