@@ -1,6 +1,6 @@
 -- Bounds of the form `natAbs z ≤ N`, inside out: of a sum, a difference, a negation, a product, a sum over i < n. Two laws take such a
 -- bound to a signed width w: the number fits it, and its bits read back are the number. Assumes nothing.
-use mathlib.Core.Path.{_≡_, refl, sym, _∙_, ap, subst}
+use mathlib.Core.Path.{_≡_, refl, sym, _∙_, subst}
 use Prim.Native.Nat.{ℕ, zero, suc, _+_, _*_, _^_, _≤_, _<_}
 use native.Mathlib.Nat.{le-refl, mul-le-mul}
 use native.Mathlib.Omega.{arith}
@@ -9,7 +9,7 @@ use lib.Signed.{mag, _≤ℤ_}
 use mir.Syntax.{Width}
 use mir.Val.{SFits, hbits, toZ, ofZ}
 use mir.Facts.{toZ-ofZ}
-use Rattle.integers.specs.Linear.{posPart, negPart, integer, +ℤ-parts, negℤ-parts, natAbs-parts, one-part}
+use Rattle.integers.specs.Linear.{integer, +ℤ-parts, negℤ-parts, natAbs-parts, one-part}
 use Rattle.integers.specs.Sum.{sum}
 
 -- ---- absolute values

@@ -5,3 +5,5 @@ pub mod Linear
 pub mod Order
 pub mod Sum
 pub mod Bounds
+pub mod Extremum
+pub mod Gram

@@ -4,9 +4,8 @@
 use mathlib.Core.Path.{_≡_, refl, sym, _∙_, ap}
 use mathlib.Core.Bool.{Bool, true, false, not, cond}
 use Prim.Native.Nat.{ℕ, zero, suc, _+_, _*_, _-_, _≤_, _<_, min}
-use native.Mathlib.Nat.{le-refl}
 use native.Mathlib.Omega.{arith}
-use lib.Dec.{T, leb, ltb, leb→le, le→leb, ltb→lt, lt→ltb, nltb→le}
+use lib.Dec.{T, ltb, leb→le, le→leb, ltb→lt, lt→ltb, nltb→le}
 use lib.IntN.{ℤ, pos, negsuc, negℤ, natAbs, subℕ, _+ℤ_, _-ℤ_, _*ℤ_}
 use lib.Signed.{leZ, ltZ, _≤ℤ_, _<ℤ_}
 
@@ -80,6 +79,7 @@ subℕ-parts a b = cond-parts (ltb a b) (negsuc (b - suc a)) (pos (a - b)) (λ z
   where
     below : a < b → 0 + b ≡ suc (b - suc a) + a
     below h = omega arith
+
     above : b ≤ a → a - b + b ≡ 0 + a
     above h = omega arith
 

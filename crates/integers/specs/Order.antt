@@ -1,45 +1,16 @@
 -- The order of ℤ: an order, total, kept by sums and by products with what isn't negative; squares; the tests `leZ` and `ltZ` of
 -- lib.Signed as facts; inequalities by a certificate. Assumes nothing.
-use mathlib.Core.Path.{_≡_, refl, sym, _∙_, ap, subst}
+use mathlib.Core.Path.{_≡_, refl, sym, _∙_, subst}
 use mathlib.Core.Logic.{_⊎_, inl, inr, ⊎-elim}
 use mathlib.Core.Bool.{Bool, true, false, not}
 use mathlib.Core.List.{List, [], _∷_}
-use Prim.Native.Nat.{ℕ, zero, suc, _+_, _*_, _≤_, _<_}
+use Prim.Native.Nat.{ℕ, suc, _*_}
 use native.Mathlib.Omega.{arith}
 use lib.Dec.{T}
 use lib.IntN.{ℤ, pos, negsuc, negℤ, _+ℤ_, _-ℤ_, _*ℤ_}
 use lib.Signed.{leZ, ltZ, _≤ℤ_, _<ℤ_, leZ-yes, ltZ-yes, ltZ-no, clashℤ}
 use Rattle.integers.specs.Solver.{Expr, con, _⊕_, _⊗_, _⊖_, x₀, x₁, x₂, value, normal, solve}
-use Rattle.integers.specs.Linear.{posPart, negPart, integer, ≡-to-parts, +ℤ-parts, -ℤ-parts, negℤ-parts}
-
--- ---- an order, and total (lib.Signed has ≤ℤ-refl, <ℤ-≤ℤ-trans and <ℤ-irrefl)
-pub ≤ℤ-trans : {a b c : ℤ} → a ≤ℤ b → b ≤ℤ c → a ≤ℤ c
-≤ℤ-trans h k = omega (arith, integer)
-
-pub ≤ℤ-antisym : {a b : ℤ} → a ≤ℤ b → b ≤ℤ a → a ≡ b
-≤ℤ-antisym h k = omega (arith, integer)
-
-pub ≤ℤ-reflexive : {a b : ℤ} → a ≡ b → a ≤ℤ b
-≤ℤ-reflexive h = omega (arith, integer)
-
-pub ≤ℤ-<ℤ-trans : {a b c : ℤ} → a ≤ℤ b → b <ℤ c → a <ℤ c
-≤ℤ-<ℤ-trans h k = omega (arith, integer)
-
-pub <ℤ-trans : {a b c : ℤ} → a <ℤ b → b <ℤ c → a <ℤ c
-<ℤ-trans h k = omega (arith, integer)
-
-pub <ℤ-to-≤ℤ : {a b : ℤ} → a <ℤ b → a ≤ℤ b
-<ℤ-to-≤ℤ h = omega (arith, integer)
-
-pub ≤ℤ-or-<ℤ : (a b : ℤ) → (a ≤ℤ b) ⊎ (b <ℤ a)
-≤ℤ-or-<ℤ a b = go (ltZ b a) refl
-  where
-    go : (t : Bool) → ltZ b a ≡ t → (a ≤ℤ b) ⊎ (b <ℤ a)
-    go true e = inr (ltZ-yes (subst T (sym e) tt))
-    go false e = inl (ltZ-no (subst (λ (t : Bool). T (not t)) (sym e) tt))
-
-pub ≤ℤ-total : (a b : ℤ) → (a ≤ℤ b) ⊎ (b ≤ℤ a)
-≤ℤ-total a b = ⊎-elim (λ h. inl h) (λ h. inr (<ℤ-to-≤ℤ h)) (≤ℤ-or-<ℤ a b)
+use Rattle.integers.specs.Linear.{integer, ≡-to-parts, +ℤ-parts, -ℤ-parts, negℤ-parts}
 
 -- ---- the tests, as facts and back
 pub ltZ-true : (a b : ℤ) → ltZ a b ≡ true → a <ℤ b
@@ -70,6 +41,35 @@ pub ≤ℤ-leZ : {a b : ℤ} → a ≤ℤ b → leZ a b ≡ true
 
 pub <ℤ-leZ : {a b : ℤ} → b <ℤ a → leZ a b ≡ false
 <ℤ-leZ {a} {b} h = T-false (leZ a b) (λ t. clashℤ h (leZ-yes t))
+
+-- ---- an order, and total (lib.Signed has ≤ℤ-refl, <ℤ-≤ℤ-trans and <ℤ-irrefl)
+pub ≤ℤ-trans : {a b c : ℤ} → a ≤ℤ b → b ≤ℤ c → a ≤ℤ c
+≤ℤ-trans h k = omega (arith, integer)
+
+pub ≤ℤ-antisym : {a b : ℤ} → a ≤ℤ b → b ≤ℤ a → a ≡ b
+≤ℤ-antisym h k = omega (arith, integer)
+
+pub ≤ℤ-reflexive : {a b : ℤ} → a ≡ b → a ≤ℤ b
+≤ℤ-reflexive h = omega (arith, integer)
+
+pub ≤ℤ-<ℤ-trans : {a b c : ℤ} → a ≤ℤ b → b <ℤ c → a <ℤ c
+≤ℤ-<ℤ-trans h k = omega (arith, integer)
+
+pub <ℤ-trans : {a b c : ℤ} → a <ℤ b → b <ℤ c → a <ℤ c
+<ℤ-trans h k = omega (arith, integer)
+
+pub <ℤ-to-≤ℤ : {a b : ℤ} → a <ℤ b → a ≤ℤ b
+<ℤ-to-≤ℤ h = omega (arith, integer)
+
+pub ≤ℤ-or-<ℤ : (a b : ℤ) → (a ≤ℤ b) ⊎ (b <ℤ a)
+≤ℤ-or-<ℤ a b = go (ltZ b a) refl
+  where
+    go : (t : Bool) → ltZ b a ≡ t → (a ≤ℤ b) ⊎ (b <ℤ a)
+    go true e = inr (ltZ-true b a e)
+    go false e = inl (ltZ-false b a e)
+
+pub ≤ℤ-total : (a b : ℤ) → (a ≤ℤ b) ⊎ (b ≤ℤ a)
+≤ℤ-total a b = ⊎-elim (λ h. inl h) (λ h. inr (<ℤ-to-≤ℤ h)) (≤ℤ-or-<ℤ a b)
 
 pub leZ-false : (a b : ℤ) → leZ a b ≡ false → b <ℤ a
 leZ-false a b e = ⊎-elim (λ h. absurd (subst T (sym (≤ℤ-leZ h) ∙ e) tt)) (λ h. h) (≤ℤ-or-<ℤ a b)

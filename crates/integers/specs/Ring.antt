@@ -1,7 +1,7 @@
 -- The laws of the commutative ring ℤ that lib.IntN lacks: the sum, then the product. Assumes nothing.
-use mathlib.Core.Path.{_≡_, refl, sym, _∙_, ap}
-use Prim.Native.Nat.{ℕ, zero, suc}
-use lib.IntN.{ℤ, pos, negsuc, sucℤ, predℤ, negℤ, _+ℤ_, _-ℤ_, _*ℤ_, one, +ℤ-assoc, +ℤ-comm, +ℤ-idl, +ℤ-idr, +ℤ-invr, +ℤ-sucℤ, +ℤ-predℤ, sucℤ-*ℤ, predℤ-*ℤ, *ℤ-comm, *ℤ-one, zero-*ℤ, negℤ-+ℤ}
+use mathlib.Core.Path.{_≡_, sym, _∙_, ap}
+use Prim.Native.Nat.{zero, suc}
+use lib.IntN.{ℤ, pos, negsuc, sucℤ, predℤ, negℤ, _+ℤ_, _-ℤ_, _*ℤ_, one, +ℤ-assoc, +ℤ-comm, +ℤ-idr, +ℤ-invr, +ℤ-sucℤ, +ℤ-predℤ, sucℤ-*ℤ, predℤ-*ℤ, *ℤ-comm, *ℤ-one, zero-*ℤ}
 
 -- ---- the sum
 pub +ℤ-left-comm : (a b c : ℤ) → a +ℤ (b +ℤ c) ≡ b +ℤ (a +ℤ c)

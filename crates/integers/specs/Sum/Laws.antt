@@ -1,15 +1,14 @@
 -- Laws of `sum`: congruence, linearity, order, sums of sums, one place changed, all but one place zero. Assumes nothing.
 use mathlib.Core.Path.{_≡_, refl, sym, _∙_, ap}
-use mathlib.Core.Logic.{_⊎_, inl, inr, ⊎-elim}
-use mathlib.Core.List.{List, [], _∷_}
-use Prim.Native.Nat.{ℕ, zero, suc, _+_, _*_, _/_, _%_, _<_, _≤_}
-use native.Mathlib.Nat.{add-zero, add-suc, zero-mul, suc-mul, le-refl, lt-irrefl, mul-add-div-right, mul-add-mod-self-right, div-eq-of-lt, mod-eq-of-lt}
+use mathlib.Core.List.{[], _∷_}
+use Prim.Native.Nat.{ℕ, zero, suc, _+_, _*_, _/_, _%_, _<_}
+use native.Mathlib.Nat.{add-zero, add-suc, zero-mul, suc-mul, le-refl, mul-add-div-right, mul-add-mod-self-right, div-eq-of-lt, mod-eq-of-lt}
 use native.Mathlib.Decide.{ℕ-discrete}
 use native.Mathlib.Omega.{arith}
-use lib.IntN.{ℤ, pos, negsuc, negℤ, _+ℤ_, _-ℤ_, _*ℤ_, +ℤ-idl, +ℤ-idr, +ℤ-assoc, +ℤ-comm, *ℤ-comm, *ℤ-zero}
+use lib.IntN.{ℤ, pos, negsuc, negℤ, _+ℤ_, _-ℤ_, _*ℤ_, +ℤ-idr, +ℤ-assoc, *ℤ-comm, *ℤ-zero}
 use lib.Signed.{_≤ℤ_, ≤ℤ-refl}
 use Rattle.integers.specs.Ring.{+ℤ-swap, *ℤ-distribˡ-+ℤ, minus-one-*ℤ}
-use Rattle.integers.specs.Solver.{Expr, con, _⊕_, _⊗_, _⊖_, x₀, x₁, x₂, x₃, solve}
+use Rattle.integers.specs.Solver.{con, _⊕_, _⊖_, x₀, x₁, x₂, x₃, solve}
 use Rattle.integers.specs.Order.{+ℤ-mono, ≤ℤ-trans, ≤ℤ-reflexive}
 use Rattle.integers.specs.Sum.{sum}
 

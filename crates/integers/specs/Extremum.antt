@@ -1,0 +1,36 @@
+-- The least and the greatest of f i over the places i < n that pass a test, and the lowest place that attains it. Their laws are in
+-- Extremum/Laws.antt. Assumes nothing.
+pub mod Laws
+use mathlib.Core.Bool.{Bool, true, false, cond}
+use mathlib.Core.Option.{Option, none, some}
+use Prim.Native.Nat.{ℕ, zero, suc}
+use lib.IntN.{ℤ, pos}
+use lib.Signed.{ltZ}
+
+-- place n put beside the place found among those below it: taken where it passes the test and its value comes before the other's
+abbrev pub beside : (ℤ → ℤ → Bool) → (ℕ → ℤ) → Option ℕ → ℕ → Bool → Option ℕ
+beside before f found n false = found
+beside before f none n true = some n
+beside before f (some k) n true = cond (before (f n) (f k)) (some n) (some k)
+
+-- the lowest place of those whose value no other comes before; none where no place passes
+unfoldable pub extreme : (ℤ → ℤ → Bool) → ℕ → (ℕ → Bool) → (ℕ → ℤ) → Option ℕ
+extreme before zero p f = none
+extreme before (suc n) p f = beside before f (extreme before n p f) n (p n)
+
+abbrev pub argmin : ℕ → (ℕ → Bool) → (ℕ → ℤ) → Option ℕ
+argmin = extreme ltZ
+
+abbrev pub argmax : ℕ → (ℕ → Bool) → (ℕ → ℤ) → Option ℕ
+argmax = extreme (λ a b. ltZ b a)
+
+-- the value at a place that was found, 0 where there is none
+abbrev pub value-at : (ℕ → ℤ) → Option ℕ → ℤ
+value-at f none = pos 0
+value-at f (some k) = f k
+
+abbrev pub least : ℕ → (ℕ → Bool) → (ℕ → ℤ) → ℤ
+least n p f = value-at f (argmin n p f)
+
+abbrev pub greatest : ℕ → (ℕ → Bool) → (ℕ → ℤ) → ℤ
+greatest n p f = value-at f (argmax n p f)
