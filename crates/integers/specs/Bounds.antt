@@ -1,6 +1,6 @@
 -- Bounds of the form `natAbs z ≤ N`, inside out: of a sum, a difference, a negation, a product, a sum over i < n. Two laws take such a
 -- bound to a signed width w: the number fits it, and its bits read back are the number. Assumes nothing.
-use mathlib.Core.Path.{_≡_, refl, sym, _∙_, subst}
+use mathlib.Core.Path.{_≡_, refl, sym, _∙_, ap, subst}
 use Prim.Native.Nat.{ℕ, zero, suc, _+_, _*_, _^_, _≤_, _<_}
 use native.Mathlib.Nat.{le-refl, mul-le-mul}
 use native.Mathlib.Omega.{arith}
@@ -57,3 +57,11 @@ fits-width w {m} {z} e h = subst (SFits w) (sym e) (record { sfits = omega (arit
 
 pub reads-back : (w : Width) {m z : ℤ} → m ≡ z → natAbs z < 2 ^ hbits w → toZ w (ofZ w m) ≡ z
 reads-back w {m} {z} e h = toZ-ofZ {w = w} {z = m} (fits-width w e h) ∙ e
+
+-- bits that hold z read as z
+pub reads-as : (w : Width) (z : ℤ) {s : ℕ} → s ≡ ofZ w z → natAbs z < 2 ^ hbits w → toZ w s ≡ z
+reads-as w z e h = ap (toZ w) e ∙ reads-back w refl h
+
+-- the range that the checker gives of an element that was read
+pub reads-element : (w : Width) (z : ℤ) → mag z < 2 ^ hbits w → toZ w (ofZ w z) ≡ z
+reads-element w z h = toZ-ofZ {w = w} {z = z} (record { sfits = h })

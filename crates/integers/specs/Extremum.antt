@@ -1,6 +1,7 @@
 -- The least and the greatest of f i over the places i < n that pass a test, and the lowest place that attains it. Their laws are in
--- Extremum/Laws.antt. Assumes nothing.
+-- Extremum/Laws.antt and Extremum/First.antt. Assumes nothing.
 pub mod Laws
+pub mod First
 use mathlib.Core.Bool.{Bool, true, false, cond}
 use mathlib.Core.Option.{Option, none, some}
 use Prim.Native.Nat.{ℕ, zero, suc}
@@ -34,3 +35,13 @@ least n p f = value-at f (argmin n p f)
 
 abbrev pub greatest : ℕ → (ℕ → Bool) → (ℕ → ℤ) → ℤ
 greatest n p f = value-at f (argmax n p f)
+
+-- the first of the places i < n that pass a test
+abbrev pub or-place : Option ℕ → ℕ → Bool → Option ℕ
+or-place (some k) n t = some k
+or-place none n true = some n
+or-place none n false = none
+
+unfoldable pub first : ℕ → (ℕ → Bool) → Option ℕ
+first zero p = none
+first (suc n) p = or-place (first n p) n (p n)

@@ -1,5 +1,6 @@
--- The sum of f i over the places i < n. Its laws are in Sum/Laws.antt. Assumes nothing.
+-- The sum of f i over the places i < n. Its laws are in Sum/Laws.antt and Sum/Places.antt. Assumes nothing.
 pub mod Laws
+pub mod Places
 use Prim.Native.Nat.{ℕ, zero, suc}
 use lib.IntN.{ℤ, pos, _+ℤ_}
 

@@ -8,24 +8,12 @@ use mathlib.Core.Option.{Option, none, some}
 use Prim.Native.Nat.{ℕ, zero, suc, _<_}
 use native.Mathlib.Nat.{le-refl, le-antisymm, le-of-suc-le-suc, eq-or-lt-of-le}
 use native.Mathlib.Omega.{arith, by-contra}
-use lib.Dec.{T}
 use lib.IntN.{ℤ}
 use lib.Signed.{ltZ, _≤ℤ_, _<ℤ_, ≤ℤ-refl}
+use Rattle.integers.specs.Test.{clash, not-true-false, not-false-true}
 use Rattle.integers.specs.Linear.{integer}
 use Rattle.integers.specs.Order.{ltZ-true, ltZ-false, <ℤ-ltZ, ≤ℤ-ltZ}
 use Rattle.integers.specs.Extremum.{beside, extreme, value-at, least, greatest}
-
--- ---- tests
-clash : {X : Type 0} {t : Bool} → t ≡ true → t ≡ false → X
-clash h k = absurd (subst T (sym h ∙ k) tt)
-
-not-true : (t : Bool) → (t ≡ true → ⊥) → t ≡ false
-not-true true c = absurd (c refl)
-not-true false c = refl
-
-not-false : (t : Bool) → (t ≡ false → ⊥) → t ≡ true
-not-false true c = refl
-not-false false c = absurd (c refl)
 
 -- ---- the comparison
 -- what a comparison must do: none comes before itself, and what comes before c comes before b, or b before c
@@ -54,7 +42,7 @@ flip-strict {before} s =
     record {
       irrefl = s .irrefl;
       trans = λ a b c h k. s .trans c b a k h;
-      between = λ a b c h k. not-false (before b a) (λ e. clash (s .between c b a h e) k);
+      between = λ a b c h k. not-false-true (before b a) (λ e. clash (s .between c b a h e) k);
     }
 
 pub gtZ-strict : Strict (λ a b. ltZ b a)
@@ -85,7 +73,7 @@ module _ (before : ℤ → ℤ → Bool) (strict : Strict before) (p : ℕ → B
       record {
         within = le-refl (suc n);
         passes = e;
-        bounds = below-suc (λ i. p i ≡ true → before (f i) (f n) ≡ false) (λ i l q. not-true (before (f i) (f n)) (λ c. clash (strict .trans (f i) (f n) (f k) c b) (h .bounds i l q))) (λ q. strict .irrefl (f n));
+        bounds = below-suc (λ i. p i ≡ true → before (f i) (f n) ≡ false) (λ i l q. not-true-false (before (f i) (f n)) (λ c. clash (strict .trans (f i) (f n) (f k) c b) (h .bounds i l q))) (λ q. strict .irrefl (f n));
         lowest = λ i l q. strict .between (f n) (f i) (f k) b (h .bounds i l q);
       }
   beside-found n k false b e h =
@@ -172,6 +160,14 @@ module _ (before : ℤ → ℤ → Bool) (strict : Strict before) (n : ℕ) (p q
       by-place none (some k) e r =
           let h = extreme-sound before strict q g r in
           clash (same-test k (h .within) ∙ h .passes) (extreme-none before strict p f e k (h .within))
+
+  -- and so is the extreme value
+  pub extreme-value-cong : value-at f (extreme before n p f) ≡ value-at g (extreme before n q g)
+  extreme-value-cong = by-place (extreme before n p f) refl ∙ ap (value-at g) extreme-cong
+    where
+      by-place : (o : Option ℕ) → extreme before n p f ≡ o → value-at f (extreme before n p f) ≡ value-at g (extreme before n p f)
+      by-place none e = ap (value-at f) e ∙ sym (ap (value-at g) e)
+      by-place (some k) e = ap (value-at f) e ∙ same-value k (extreme-sound before strict p f e .within) ∙ sym (ap (value-at g) e)
 
 -- ---- the least and the greatest bound the values that pass
 module _ (n : ℕ) (p : ℕ → Bool) (f : ℕ → ℤ) {i : ℕ} (within : i < n) (passes : p i ≡ true) where

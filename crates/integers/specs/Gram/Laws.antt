@@ -14,12 +14,8 @@ use Rattle.integers.specs.Ring.{*ℤ-swap}
 use Rattle.integers.specs.Solver.{con, _⊕_, _⊗_, _⊖_, x₀, x₁, x₂, x₃, solve}
 use Rattle.integers.specs.Order.{square-nonneg}
 use Rattle.integers.specs.Sum.{sum}
-use Rattle.integers.specs.Sum.Laws.{sum-cong, sum-+ℤ, sum-*ℤ, sum-exchange, sum-product, sum-append, sum-flatten, sum-nonneg}
+use Rattle.integers.specs.Sum.Laws.{sum-cong, sum-cong₂, sum-+ℤ, sum-*ℤ, sum-exchange, sum-product, sum-append, sum-flatten, sum-nonneg}
 use Rattle.integers.specs.Gram.{Gram, bilinear, quadratic}
-
--- ---- double sums
-sum-cong₂ : (n m : ℕ) (f g : ℕ → ℕ → ℤ) → ((i j : ℕ) → i < n → j < m → f i j ≡ g i j) → sum n (λ i. sum m (λ j. f i j)) ≡ sum n (λ i. sum m (λ j. g i j))
-sum-cong₂ n m f g h = sum-cong n (λ i. sum m (f i)) (λ i. sum m (g i)) (λ i l. sum-cong m (f i) (g i) (λ j k. h i j l k))
 
 -- ---- the bilinear form
 module _ (n : ℕ) (K : ℕ → ℕ → ℤ) where

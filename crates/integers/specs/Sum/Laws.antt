@@ -18,6 +18,9 @@ unfolding sum
 sum-cong zero f g h = refl
 sum-cong (suc n) f g h = (λ k. sum-cong n f g (λ i l. h i (omega arith)) k +ℤ h n (le-refl (suc n)) k)
 
+pub sum-cong₂ : (n m : ℕ) (f g : ℕ → ℕ → ℤ) → ((i j : ℕ) → i < n → j < m → f i j ≡ g i j) → sum n (λ i. sum m (λ j. f i j)) ≡ sum n (λ i. sum m (λ j. g i j))
+sum-cong₂ n m f g h = sum-cong n (λ i. sum m (f i)) (λ i. sum m (g i)) (λ i l. sum-cong m (f i) (g i) (λ j k. h i j l k))
+
 pub sum-zero : (n : ℕ) (f : ℕ → ℤ) → ((i : ℕ) → i < n → f i ≡ pos 0) → sum n f ≡ pos 0
 unfolding sum
 sum-zero zero f h = refl

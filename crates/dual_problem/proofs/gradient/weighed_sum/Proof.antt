@@ -1,0 +1,136 @@
+-- `dual_problem::gradient::weighed_sum` meets its contract. The loop's invariant: `sum` holds what the first j items add. Assumes nothing.
+use mathlib.Core.Path.{_≡_, refl, sym, _∙_, ap, subst}
+use Prim.Native.Nat.{ℕ, _+_, _*_, _-_, _≤_}
+use native.Mathlib.Numerals.{add-one}
+use native.Mathlib.Omega.{arith}
+use lib.IntN.{ℤ, pos, natAbs, _+ℤ_, _*ℤ_}
+use mir.Syntax.{w64}
+use mir.Val.{toZ, ofZ}
+use Rattle.integers.specs.Bounds.{+ℤ-bound, fits-width, reads-back, reads-as}
+use Rattle.integers.specs.Sum.{sum}
+use Rattle.dual_problem.specs.Kernel.{kernelValue, largest-kernel}
+use Rattle.dual_problem.specs.Problem.{Problem, sign, y}
+use Rattle.dual_problem.specs.Items.{at, kernelWith, problem-of, weighedSum}
+use Rattle.dual_problem.proofs.gradient.weighed_sum.Statement.{statement}
+use Rattle.dual_problem.proofs.gradient.weighed_sum.Tie as tie
+
+-- what item j adds, and the sum over the first j items
+abbrev added : Problem → (ℕ → ℕ) → (ℕ → ℤ) → ℕ → ℤ
+added P a k j = pos (a j) *ℤ y P j *ℤ k j
+
+abbrev row : Problem → (ℕ → ℕ) → (ℕ → ℤ) → ℕ → ℤ
+row P a k j = sum j (added P a k)
+
+abbrev Inv-loop : tie.InvT-loop
+Inv-loop file order count parameters multipliers x sum₀ j₀ sum j =
+    (j ≤ count) × (sum ≡ ofZ w64 (row (problem-of file parameters) (at multipliers) (kernelWith file parameters (x .features)) j))
+    × (natAbs (row (problem-of file parameters) (at multipliers) (kernelWith file parameters (x .features)) j) ≤ j * (65536 * largest-kernel 16 128))
+
+abbrev μ-loop : tie.MeasureT-loop
+μ-loop file order count parameters multipliers x sum₀ j₀ sum j = count - j
+
+-- the problem and the multipliers of the call
+abbrev P : tie.Start Inv-loop μ-loop → Problem
+P s = problem-of (s .args .file .now) (s .args .parameters)
+
+abbrev a : tie.Start Inv-loop μ-loop → ℕ → ℕ
+a s = at (s .args .multipliers .now)
+
+abbrev k : tie.Start Inv-loop μ-loop → ℕ → ℤ
+k s = kernelWith (s .args .file .now) (s .args .parameters) (s .args .x .features)
+
+-- a kernel value's bits read back
+kernel-reads : (k : ℤ) → natAbs k ≤ largest-kernel 16 128 → toZ w64 (ofZ w64 k) ≡ k
+kernel-reads k h = reads-back w64 refl (omega arith)
+
+loop-holds : tie.Need-loop-holds Inv-loop μ-loop
+unfolding sum
+loop-holds c = (omega arith, refl, omega arith)
+
+fetch-requires : tie.Need-fetch-requires Inv-loop μ-loop
+fetch-requires c κs = let p = c .before .before .before .before .before .pre in p .table .tabled _ (c .loop-test .taken)
+
+mul-term : tie.Need-mul-term Inv-loop μ-loop
+mul-term c = omega (arith, c .before .before .before .before .before .before .pre .table .few)
+
+shared-slice-read-term : tie.Need-shared-slice-read-term Inv-loop μ-loop
+shared-slice-read-term c = omega (arith, c .before .before .before .before .before .before .before .pre .long)
+
+kernel-value-requires : tie.Need-kernel-value-requires Inv-loop μ-loop
+kernel-value-requires c κs = c .before .before .before .before .before .before .before .pre .used
+
+term-requires : tie.Need-term-requires Inv-loop μ-loop
+term-requires c κs = (
+  c .before .before .before .before .before .before .before .before .pre .small _ (c .before .before .before .loop-test .taken),
+  subst (λ z. natAbs z ≤ largest-kernel 16 128) (sym (kernel-reads (c .kernel-value .result) (c .kernel-value .ensures .1))) (c .kernel-value .ensures .1),
+)
+
+module _ (c : tie.After-term Inv-loop μ-loop) where
+  s : tie.Start Inv-loop μ-loop
+  s = c .before .before .before .before .before .before .before .before .before
+
+  j : ℕ
+  j = c .before .before .before .before .before .loop .j
+
+  added-is : c .term .result ≡ added (P s) (a s) (k s) j
+  unfolding s j
+  added-is =
+      let z = c .before .before .before .fetch .ensures in
+      c .term .ensures .0
+      ∙ (λ i. pos (a s j) *ℤ sign (z i .label) *ℤ kernel-reads (c .before .kernel-value .result) (c .before .kernel-value .ensures .1) i)
+      ∙ (λ i. pos (a s j) *ℤ y (P s) j *ℤ (c .before .kernel-value .ensures .0 ∙ (λ i. kernelValue (s .args .parameters .kernel) (s .args .parameters .features) (s .args .x .features) (z i .features))) i)
+
+  added-size : natAbs (added (P s) (a s) (k s) j) ≤ 65536 * largest-kernel 16 128
+  added-size = subst (λ z. natAbs z ≤ 65536 * largest-kernel 16 128) added-is (c .term .ensures .1)
+
+  next-size : natAbs (row (P s) (a s) (k s) (j + 1)) ≤ (j + 1) * (65536 * largest-kernel 16 128)
+  unfolding s j sum
+  next-size = rw add-one (omega (arith, +ℤ-bound (row (P s) (a s) (k s) j) (added (P s) (a s) (k s) j) (c .before .before .before .before .before .loop .inv .2) added-size))
+
+  next-is : toZ w64 (c .before .before .before .before .before .loop .sum) +ℤ toZ w64 (ofZ w64 (c .term .result)) ≡ row (P s) (a s) (k s) (j + 1)
+  unfolding s j sum
+  next-is =
+      rw add-one
+      (λ i. reads-as w64 (row (P s) (a s) (k s) j) (c .before .before .before .before .before .loop .inv .1) (omega (arith, c .before .before .before .before .before .loop .inv .2, s .pre .table .few)) i
+      +ℤ reads-back w64 added-is (omega (arith, added-size)) i)
+
+add-sum : tie.Need-add-sum Inv-loop μ-loop
+unfolding s j
+add-sum c = fits-width w64 (next-is c) (omega (arith, next-size c, s c .pre .table .few))
+
+add-j : tie.Need-add-j Inv-loop μ-loop
+add-j c = omega arith
+
+loop-less : tie.Need-loop-less Inv-loop μ-loop
+loop-less c = omega arith
+
+loop-again : tie.Need-loop-again Inv-loop μ-loop
+unfolding s j
+loop-again c = (omega arith, ap (ofZ w64) (next-is c), next-size c)
+
+returns : tie.Need-returns Inv-loop μ-loop
+returns c =
+    let b = c .before .before .before .before .before in
+    let e : c .before .loop .j ≡ b .args .count = omega arith in
+    let n = e ∙ b .pre .table .counted in
+    let size = subst (λ m. natAbs (row (P b) (a b) (k b) m) ≤ 256 * (65536 * largest-kernel 16 128)) n (omega (arith, c .before .loop .inv .2, b .pre .table .few)) in
+    let whole = reads-as w64 (weighedSum (P b) (a b) (k b)) (c .before .loop .inv .1 ∙ ap (λ m. ofZ w64 (row (P b) (a b) (k b) m)) n) (omega arith) in
+    (whole, subst (λ z. natAbs z ≤ 256 * (65536 * largest-kernel 16 128)) (sym whole) size)
+
+pub weighed-sum-spec : {M : Type 1} → statement M
+weighed-sum-spec =
+    tie.close
+    (tie.spec
+    Inv-loop
+    μ-loop
+    loop-holds
+    fetch-requires
+    mul-term
+    shared-slice-read-term
+    kernel-value-requires
+    term-requires
+    add-sum
+    add-j
+    loop-less
+    loop-again
+    returns)

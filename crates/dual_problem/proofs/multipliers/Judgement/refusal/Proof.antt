@@ -1,0 +1,19 @@
+-- `dual_problem::multipliers::Judgement::refusal` meets its contract. Assumes nothing.
+use borrow.Author.Needs.{needs}
+use Rattle.dual_problem.proofs.multipliers.Judgement.refusal.Statement.{statement}
+use Rattle.dual_problem.proofs.multipliers.Judgement.refusal.Tie as tie
+
+enum-known-self : tie.Need-enum-known-self
+enum-known-self c = search needs
+
+enum-told : tie.Need-enum-told
+enum-told c = search needs
+
+returns : tie.Need-returns
+returns c = search needs
+
+returns-2 : tie.Need-returns-2
+returns-2 c = cc
+
+pub refusal-spec : {M : Type 1} → statement M
+refusal-spec = tie.close (tie.spec enum-known-self enum-told returns returns-2)

@@ -1,0 +1,154 @@
+-- `dual_problem::thresholds::find_extremes` meets its contract. The loop's invariant: `low` and `up` are the places of the first i that
+-- attain the thresholds. Assumes nothing.
+use mathlib.Core.List.{List}
+use mathlib.Core.Path.{_≡_, refl, _∙_, ap}
+use mathlib.Core.Option.{Option}
+use mathlib.Core.Bool.{Bool, true, false, cond}
+use Prim.Native.Nat.{ℕ, _-_, _≤_}
+use native.Mathlib.Numerals.{add-one}
+use native.Mathlib.Omega.{arith}
+use borrow.Author.Needs.{needs}
+use lib.IntN.{ℤ, pos}
+use lib.ListN.{getD}
+use mir.Syntax.{w64}
+use mir.Val.{toZ, ofZ}
+use Rattle.integers.specs.Bounds.{reads-element}
+use Rattle.integers.specs.Extremum.{extreme, beside}
+use Rattle.dual_problem.specs.declared.thresholds.Best.{Best}
+use Rattle.dual_problem.specs.Problem.{Problem, up, low, in-up, in-low, ceiling-of}
+use Rattle.dual_problem.specs.Items.{at, problem-of}
+use Rattle.dual_problem.specs.Thresholds.{bestOf, bestBeside, comes-first}
+use Rattle.dual_problem.specs.Thresholds.Laws.{best-beside}
+use Rattle.dual_problem.proofs.thresholds.find_extremes.Statement.{statement}
+use Rattle.dual_problem.proofs.thresholds.find_extremes.Tie as tie
+
+-- G at a place of the list
+abbrev value : List ℤ → ℕ → ℤ
+value gradient i = getD gradient i (pos 0)
+
+abbrev Inv-loop : tie.InvT-loop
+Inv-loop file order count parameters multipliers gradient low₀ up₀ i₀ lowest highest i =
+    (i ≤ count)
+    × (lowest ≡ bestOf (value gradient) (extreme (comes-first false) i (low (problem-of file parameters) (at multipliers)) (value gradient)))
+    × (highest ≡ bestOf (value gradient) (extreme (comes-first true) i (up (problem-of file parameters) (at multipliers)) (value gradient)))
+
+abbrev μ-loop : tie.MeasureT-loop
+μ-loop file order count parameters multipliers gradient low₀ up₀ i₀ lowest highest i = count - i
+
+loop-holds : tie.Need-loop-holds Inv-loop μ-loop
+unfolding extreme
+loop-holds c = (omega arith, refl, refl)
+
+fetch-requires : tie.Need-fetch-requires Inv-loop μ-loop
+fetch-requires c κs = c .before .before .before .before .before .pre .0 .tabled _ (c .loop-test .taken)
+
+ceiling-requires : tie.Need-ceiling-requires Inv-loop μ-loop
+ceiling-requires c κs = search needs
+
+mul-multiplier : tie.Need-mul-multiplier Inv-loop μ-loop
+mul-multiplier c = omega (arith, c .before .before .before .before .before .before .before .pre .0 .few)
+
+shared-slice-read-multiplier : tie.Need-shared-slice-read-multiplier Inv-loop μ-loop
+shared-slice-read-multiplier c = omega (arith, c .before .before .before .before .before .before .before .before .pre .1)
+
+mul-value : tie.Need-mul-value Inv-loop μ-loop
+mul-value c = omega (arith, c .before .before .before .before .before .before .before .before .pre .0 .few)
+
+shared-slice-copy-out-value : tie.Need-shared-slice-copy-out-value Inv-loop μ-loop
+shared-slice-copy-out-value c = omega (arith, c .before .before .before .before .before .before .before .before .pre .2)
+
+in-low-requires : tie.Need-in-low-requires Inv-loop μ-loop
+in-low-requires c κs = search needs
+
+beside-member-requires : tie.Need-beside-member-requires Inv-loop μ-loop
+beside-member-requires c κs = search needs
+
+in-up-requires : tie.Need-in-up-requires Inv-loop μ-loop
+in-up-requires c κs = search needs
+
+beside-member-requires-2 : tie.Need-beside-member-requires-2 Inv-loop μ-loop
+beside-member-requires-2 c κs = search needs
+
+add-i : tie.Need-add-i Inv-loop μ-loop
+add-i c = omega arith
+
+loop-less : tie.Need-loop-less Inv-loop μ-loop
+loop-less c = omega arith
+
+-- one turn for either set
+turn : (least : Bool) (f : ℕ → ℤ) (found : Option ℕ) (i : ℕ) {self r : Best} {member t : Bool} {v : ℤ}
+    → r ≡ cond member (bestBeside self i v least) self → member ≡ t → self ≡ bestOf f found → v ≡ f i → r ≡ bestOf f (beside (comes-first least) f found i t)
+turn least f found i {t} e m b w = e ∙ (λ k. cond (m k) (bestBeside (b k) i (w k) least) (b k)) ∙ best-beside least f found i t
+
+module _ (c : tie.After-value Inv-loop μ-loop) where
+  s : tie.Start Inv-loop μ-loop
+  s = c .before .before .before .before .before .before .before .before .before
+
+  i : ℕ
+  i = c .before .before .before .before .before .loop .i
+
+  P : Problem
+  P = problem-of (s .args .file .now) (s .args .parameters)
+
+  g : ℕ → ℤ
+  g = value (s .args .gradient .now)
+
+  label-is : c .before .before .before .fetch .result .label ≡ P .label i
+  unfolding s i P
+  label-is = λ k. c .before .before .before .fetch .ensures k .label
+
+  ceiling-is : c .before .before .ceiling .result ≡ P .ceiling i
+  unfolding s i P
+  ceiling-is = c .before .before .ceiling .ensures ∙ ap (ceiling-of (s .args .parameters)) label-is
+
+  value-is : toZ w64 (ofZ w64 (g i)) ≡ g i
+  unfolding s i g
+  value-is = reads-element w64 (g i) (c .value .given)
+
+loop-again : tie.Need-loop-again Inv-loop μ-loop
+unfolding s i P g extreme
+loop-again c =
+    let d = c .before .before .before .before in
+    let inv = d .before .before .before .before .before .loop .inv in (
+      omega arith,
+      rw add-one
+          (turn false (g d) (extreme (comes-first false) (i d) (low (P d) (at (s d .args .multipliers .now))) (g d)) (i d) (c .before .before .beside-member .ensures)
+          (c .before .before .before .in-low .ensures ∙ (λ k. in-low (label-is d k) (at (s d .args .multipliers .now) (i d)) (ceiling-is d k))) (inv .1) (value-is d)),
+      rw add-one
+          (turn true (g d) (extreme (comes-first true) (i d) (up (P d) (at (s d .args .multipliers .now))) (g d)) (i d) (c .beside-member2 .ensures)
+          (c .before .in-up .ensures ∙ (λ k. in-up (label-is d k) (at (s d .args .multipliers .now) (i d)) (ceiling-is d k))) (inv .2) (value-is d)),
+    )
+
+returns : tie.Need-returns Inv-loop μ-loop
+returns c =
+    let b = c .before .before .before .before .before in
+    let h = value (b .args .gradient .now) in
+    let Q = problem-of (b .args .file .now) (b .args .parameters) in
+    let e : c .before .loop .i ≡ b .args .count = omega arith in
+    let n = e ∙ b .pre .0 .counted in
+    λ k. record {
+      low = (c .before .loop .inv .1 ∙ ap (λ m. bestOf h (extreme (comes-first false) m (low Q (at (b .args .multipliers .now))) h)) n) k;
+      up = (c .before .loop .inv .2 ∙ ap (λ m. bestOf h (extreme (comes-first true) m (up Q (at (b .args .multipliers .now))) h)) n) k;
+    }
+
+pub find-extremes-spec : {M : Type 1} → statement M
+find-extremes-spec =
+    tie.close
+    (tie.spec
+    Inv-loop
+    μ-loop
+    loop-holds
+    fetch-requires
+    ceiling-requires
+    mul-multiplier
+    shared-slice-read-multiplier
+    mul-value
+    shared-slice-copy-out-value
+    in-low-requires
+    beside-member-requires
+    in-up-requires
+    beside-member-requires-2
+    add-i
+    loop-less
+    loop-again
+    returns)

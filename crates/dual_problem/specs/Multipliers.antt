@@ -1,0 +1,40 @@
+-- Document 01, refusals 6 to 8: judging multipliers against a problem. Laws are in Multipliers/Laws.antt. Assumes nothing.
+pub mod Laws
+use mathlib.Core.Bool.{Bool, false, cond}
+use mathlib.Core.List.{List}
+use Prim.Native.Nat.{ℕ}
+use lib.Dec.{leb, eqb}
+use lib.IntN.{ℤ, pos, negsuc, _*ℤ_}
+use lib.ListN.{length}
+use Rattle.integers.specs.Places.{all}
+use Rattle.integers.specs.Sum.{sum}
+use Rattle.training_file.specs.declared.refusal.Refusal.{Refusal}
+use Rattle.dual_problem.specs.declared.multipliers.Judgement.{Judgement}
+use Rattle.dual_problem.specs.declared.multipliers.Judgement.the-variants.{Refused, Feasible}
+use Rattle.dual_problem.specs.Problem.{Problem, y}
+use Rattle.dual_problem.specs.Items.{at}
+
+abbrev pub refused : ℕ → Judgement
+refused number = Refused (record { number = number })
+
+-- the sum of a_i × y_i
+abbrev pub balance : Problem → (ℕ → ℕ) → ℤ
+balance P a = sum (P .count) (λ i. pos (a i) *ℤ y P i)
+
+abbrev pub is-zero : ℤ → Bool
+is-zero (pos n) = eqb n 0
+is-zero (negsuc n) = false
+
+-- "6: .. multipliers not n in number; 7: a multiplier over c; 8: the sum of a × y is not 0", the first that applies
+abbrev pub judgement : Problem → List ℕ → Judgement
+judgement P a =
+    cond (eqb (length a) (P .count))
+    (cond (all (P .count) (λ i. leb (at a i) (P .ceiling i)))
+    (cond (is-zero (balance P (at a))) Feasible (refused 8))
+    (refused 7))
+    (refused 6)
+
+-- the refusal that a judgement is: number 0, which refuses nothing, where it is none
+abbrev pub judgementRefusal : Judgement → Refusal
+judgementRefusal (Refused why) = why
+judgementRefusal Feasible = record { number = 0 }

@@ -1,0 +1,115 @@
+-- `lookahead::classify::classify_read` meets its contract: each return has the answers of the tests before it. Assumes nothing.
+use mathlib.Core.Path.{_≡_, refl, sym, _∙_, ap}
+use mathlib.Core.Bool.{Bool, cond}
+use mathlib.Core.List.{List}
+use native.Mathlib.Nat.{le-trans}
+use native.Mathlib.Omega.{arith}
+use borrow.Author.Tests.{eq-eqb, ne-eqb, not-true, not-false}
+use mir.Syntax.{w64}
+use Rattle.integers.specs.Bounds.{reads-element}
+use Rattle.training_file.specs.declared.item.Item.{Item}
+use Rattle.training_file.specs.Reading.{reading}
+use Rattle.training_file.specs.Calls.{itemsIn}
+use Rattle.dual_problem.specs.declared.multipliers.Judgement.the-variants.{Feasible}
+use Rattle.dual_problem.specs.Items.{Prepared, problem-of}
+use Rattle.dual_problem.specs.Multipliers.{judgement, judgementRefusal}
+use Rattle.dual_problem.specs.Multipliers.Laws.{judgement-feasible}
+use Rattle.lookahead.specs.declared.classify.Classified.the-variants.{Refused, Is}
+use Rattle.lookahead.specs.Classify.{classOf, classifyItems, refusedWith}
+use Rattle.lookahead.specs.Classify.Laws.{class, feasible-are, items-are}
+use borrow.Author.Needs.{needs}
+use Rattle.lookahead.proofs.classify.classify_read.Statement.{statement}
+use Rattle.lookahead.proofs.classify.classify_read.Tie as tie
+
+abbrev items : tie.Start → List Item
+items s = itemsIn (reading (s .args .file .now))
+
+returns : tie.Need-returns
+returns c =
+    let s = c .before .before .before .before .before in
+    sym (items-are (s .args .parameters) (items s) (s .args .multipliers .now) (s .args .word .now) (ne-eqb _ _ (c .if1 .taken)) refl)
+
+judge-requires : tie.Need-judge-requires
+judge-requires c κs = search needs
+
+enum-told : tie.Need-enum-told
+enum-told c = search needs
+
+enum-told-2 : tie.Need-enum-told-2
+enum-told-2 c = search needs
+
+refusal-requires : tie.Need-refusal-requires
+refusal-requires c κs = search needs
+
+returns-2 : tie.Need-returns-2
+returns-2 c =
+    let s = c .before .before .before .before .before .before .before .before .before in
+    let why = c .before .enum-told2 .given .1 in
+    ap Refused (c .refusal .ensures ∙ ap judgementRefusal why)
+    ∙ sym (items-are (s .args .parameters) (items s) (s .args .multipliers .now) (s .args .word .now) (eq-eqb _ _ (c .before .before .before .before .if1 .left)) (sym (c .before .before .before .judge .ensures) ∙ why))
+
+word-allowed-requires : tie.Need-word-allowed-requires
+word-allowed-requires c κs = search needs
+
+-- past the judging the multipliers are feasible, and the word has d features
+module _ (c : tie.After-word-allowed) where
+  s : tie.Start
+  s = c .before .before .before .before .before .before .before .before .before
+
+  judged : judgement (problem-of (s .args .file .now) (s .args .parameters)) (s .args .multipliers .now) ≡ Feasible
+  unfolding s
+  judged = sym (c .before .before .before .judge .ensures) ∙ c .before .enum-told .given .1
+
+  class-is : {t : Bool} → c .word-allowed .result ≡ t
+      → cond t (class (s .args .parameters) (items s) (s .args .multipliers .now) (s .args .word .now)) (refusedWith 9)
+      ≡ classifyItems (s .args .parameters) (items s) (s .args .multipliers .now) (s .args .word .now)
+  unfolding s
+  class-is e =
+      sym
+      (feasible-are (s .args .parameters) (items s) (s .args .multipliers .now) (s .args .word .now) (eq-eqb _ _ (c .before .before .before .before .if1 .left)) judged
+      (sym (c .word-allowed .ensures) ∙ e))
+
+  prepared : Prepared (s .args .file .now) (s .args .order .now) (s .args .count) (s .args .parameters) (s .args .multipliers .now)
+  unfolding s
+  prepared =
+      let f = judgement-feasible (problem-of (s .args .file .now) (s .args .parameters)) (s .args .multipliers .now) judged in
+      record {
+        table = s .pre .0;
+        used = s .pre .1 .features-greatest;
+        grid = s .pre .1 .grid-greatest;
+        long = omega (arith, f .0, s .pre .0 .counted);
+        small = λ i l. le-trans (f .1 .within i (omega (arith, s .pre .0 .counted))) (s .pre .1 .ceiling-greatest);
+      }
+
+returns-3 : tie.Need-returns-3
+unfolding s
+returns-3 c = class-is (c .before) (not-true _ (c .if2 .taken))
+
+find-score-requires : tie.Need-find-score-requires
+unfolding s
+find-score-requires c κs = (prepared (c .before), omega (arith, s (c .before) .pre .1 .features-greatest, c .before .before .before .before .before .if1 .left))
+
+of-score-requires : tie.Need-of-score-requires
+of-score-requires c κs = search needs
+
+returns-4 : tie.Need-returns-4
+unfolding s
+returns-4 c =
+    let score-is = reads-element w64 (c .before .find-score .result) (c .before .find-score .ok) ∙ c .before .find-score .ensures in
+    ap Is (c .of-score .ensures ∙ ap classOf score-is) ∙ class-is (c .before .before .before) (not-false _ (c .before .before .if2 .left))
+
+pub classify-read-spec : {M : Type 1} → statement M
+classify-read-spec =
+    tie.close
+    (tie.spec
+    returns
+    judge-requires
+    enum-told
+    enum-told-2
+    refusal-requires
+    returns-2
+    word-allowed-requires
+    returns-3
+    find-score-requires
+    of-score-requires
+    returns-4)

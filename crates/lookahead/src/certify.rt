@@ -1,0 +1,16 @@
+// Certifying, as the public library has it.
+
+ghost use mathlib.Core.Path.{_≡_};
+ghost use Rattle.training_file.specs.Reading.{reading};
+ghost use Rattle.dual_problem.specs.Certify.{Certain, certifying};
+use dual_problem::certify;
+use dual_problem::certify::Certified;
+
+// Both thresholds of any multipliers of any file, or the refusal. From the thresholds follows how far the multipliers can be from
+// the best ones, which the second clause says.
+pub fn certify(file: &[u8], multipliers: &[u32]) -> Certified
+    ensures answer { λ r. ⌜ r ≡ certifying (now (file .entry)) (now (multipliers .entry)) ⌝ }
+    ensures distance { λ r. ⌜ Certain (reading (now (file .entry))) (now (multipliers .entry)) r ⌝ }
+{
+    certify::certify(file, multipliers)
+}

@@ -1,0 +1,106 @@
+// Classifying: whether a word is one to be looked up, by a training file and multipliers (document 01, "The step").
+
+ghost use mathlib.Core.Path.{_≡_};
+ghost use Prim.Native.Nat.{_≤_};
+ghost use lib.ListN.{length};
+ghost use Rattle.training_file.specs.Reading.{reading};
+ghost use Rattle.training_file.specs.AcceptedLaws.{Ranges};
+ghost use Rattle.training_file.specs.Calls.{itemsIn};
+ghost use Rattle.dual_problem.specs.Items.{Listed, Prepared, at};
+ghost use Rattle.lookahead.specs.Classify.{classOf, classifyItems, classifying, score};
+use super::word::word_allowed;
+use super::word::word_item;
+use dual_problem::certify::find_thresholds;
+use dual_problem::gradient::weighed_sum;
+use dual_problem::multipliers;
+use dual_problem::multipliers::Judgement;
+use dual_problem::multipliers::judge;
+use training_file::parameters::Parameters;
+use training_file::reader;
+use training_file::reader::Outcome;
+use training_file::refusal::Refusal;
+
+// The refusal that the caller can cause by a word's features.
+pub const FEATURE: u8 = 9;
+
+// What classifying says of a word. A label is what the log says of one, so this is an enum of its own.
+pub enum Class {
+    LookedUp,
+    PassedOver,
+}
+
+impl Class {
+    pub fn of_score(score: i64) -> Class
+        ensures { λ r. ⌜ r ≡ classOf score ⌝ }
+    {
+        if 0 < score {
+            Class::LookedUp
+        } else {
+            Class::PassedOver
+        }
+    }
+}
+
+pub enum Classified {
+    Refused(Refusal),
+    Is(Class),
+}
+
+// The doubled score of a word. Both thresholds are worked out here, from the multipliers given.
+fn find_score(
+    file: &[u8],
+    order: &[u16],
+    count: usize,
+    parameters: Parameters,
+    multipliers: &[u32],
+    word: &[i8],
+) -> i64
+    requires { ⌜ Prepared (now file) (now order) count parameters (now multipliers) × (length (now word) ≤ 16) ⌝ }
+    ensures { λ r. ⌜ r ≡ score parameters (itemsIn (reading (now (file .entry)))) (at (now (multipliers .entry))) (now (word .entry)) ⌝ }
+{
+    let thresholds = find_thresholds(file, order, count, parameters, multipliers);
+    let x = word_item(word);
+    let sum = weighed_sum(file, order, count, parameters, multipliers, x);
+    2 * sum - (thresholds.lower + thresholds.upper)
+}
+
+// A word by the multipliers of a file that was read. The word's length and the number of multipliers are refused with one number,
+// so that the word's can be tested ahead of the judging, which tests the other.
+fn classify_read(
+    file: &[u8],
+    order: &[u16],
+    count: usize,
+    parameters: Parameters,
+    multipliers: &[u32],
+    word: &[i8],
+) -> Classified
+    requires { ⌜ Listed (now file) (now order) count × Ranges parameters ⌝ }
+    ensures { λ r. ⌜ r ≡ classifyItems parameters (itemsIn (reading (now (file .entry)))) (now (multipliers .entry)) (now (word .entry)) ⌝ }
+{
+    if word.len() != parameters.features {
+        return Classified::Refused(Refusal {
+            number: multipliers::COUNT,
+        });
+    }
+    let judgement = judge(file, order, count, parameters, multipliers);
+    let Judgement::Feasible = judgement else {
+        return Classified::Refused(judgement.refusal());
+    };
+    if !word_allowed(word) {
+        return Classified::Refused(Refusal { number: FEATURE });
+    }
+    let score = find_score(file, order, count, parameters, multipliers, word);
+    Classified::Is(Class::of_score(score))
+}
+
+// Any file, any multipliers and any word.
+pub fn classify(file: &[u8], multipliers: &[u32], word: &[i8]) -> Classified
+    ensures { λ r. ⌜ r ≡ classifying (now (file .entry)) (now (multipliers .entry)) (now (word .entry)) ⌝ }
+{
+    let mut order = [0u16; 256];
+    let outcome = reader::order(file, &mut order);
+    let Outcome::Accepted(parameters, count) = outcome else {
+        return Classified::Refused(outcome.refusal());
+    };
+    classify_read(file, &order, count, parameters, multipliers, word)
+}

@@ -1,0 +1,6 @@
+// Why training ended.
+pub enum Ending {
+    Converged,
+    Stuck,
+    Spent,
+}

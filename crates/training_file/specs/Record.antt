@@ -1,0 +1,23 @@
+-- A record judged and read: refusal 4 of document 01, and the item that the record holds.
+use mathlib.Core.Bool.{Bool, _&&_}
+use mathlib.Core.List.{List}
+use Prim.Native.Nat.{ℕ, _+_, _*_, _≤_}
+use lib.Dec.{eqb}
+use lib.ListN.{length}
+use Rattle.training_file.specs.declared.item.Item.{Item}
+use Rattle.training_file.specs.Layout.{featureBytes, labelByte, zeroByte}
+use Rattle.training_file.specs.Item.{featuresAllowed, itemOf, labelAllowed, labelOf}
+
+-- refusal 4, of record r on the chain with d features in use: "a wrong label, byte 3 not 0, a feature outside its range, or a
+-- feature past d not 0"
+unfoldable pub recordAllowed : ℕ → List ℕ → ℕ → Bool
+recordAllowed d file r =
+    labelAllowed (labelByte file r) && eqb (zeroByte file r) 0 && featuresAllowed d (featureBytes file r)
+
+abbrev pub itemAt : List ℕ → ℕ → Item
+itemAt file r = itemOf (labelOf (labelByte file r)) (featureBytes file r)
+
+-- that record r stands whole in the file, which whoever reads it relies on
+pub record Stored (file : List ℕ) (r : ℕ) : Type 0 where
+  pub numbered : 1 ≤ r
+  pub whole : 32 + 20 * r ≤ length file

@@ -1,0 +1,65 @@
+// The header: the length that it promises, and the parameters that it holds.
+
+ghost use mathlib.Core.Path.{_≡_};
+ghost use Prim.Native.Nat.{_≤_};
+ghost use lib.ListN.{length};
+ghost use Rattle.training_file.specs.Stages.{headerAnswer, storedAnswer};
+use super::bytes::u16_at;
+use super::bytes::u32_at;
+use super::bytes::u64_at;
+use super::item::Item;
+use super::layout;
+use super::parameters::Kernel;
+use super::parameters::KernelAnswer;
+use super::parameters::Parameters;
+use super::parameters::ParametersAnswer;
+use super::refusal::Count;
+use super::refusal::Refusal;
+
+// How many records are stored. Refused where the file does not have the length of its header and so many records.
+pub fn count_records(file: &[u8]) -> Count
+    ensures { λ r. ⌜ r ≡ storedAnswer (now (file .entry)) ⌝ }
+{
+    if file.len() < layout::HEADER_LENGTH {
+        return Count::refused(Refusal::LENGTH);
+    }
+    let stored = u16_at(file, layout::RECORDS_STORED) as usize;
+    if Item::MAX_COUNT < stored {
+        return Count::refused(Refusal::LENGTH);
+    }
+    if file.len() != layout::HEADER_LENGTH + layout::RECORD_LENGTH * stored {
+        return Count::refused(Refusal::LENGTH);
+    }
+    Count::Counted(stored)
+}
+
+// The parameters. Refused where a field is beyond its range, or a spare byte is not 0.
+pub fn read_parameters(file: &[u8]) -> ParametersAnswer
+    requires { do ⌜ (← ⟦layout::HEADER_LENGTH⟧) ≤ length (now file) ⌝ }
+    ensures { λ r. ⌜ r ≡ headerAnswer (now (file .entry)) ⌝ }
+{
+    let refusal = Refusal {
+        number: Refusal::HEADER,
+    };
+    if u16_at(file, layout::RECORDS_STORED) < u16_at(file, layout::FIRST_RECORD) {
+        return ParametersAnswer::Refused(refusal);
+    }
+    if u16_at(file, layout::SPARE) != 0 {
+        return ParametersAnswer::Refused(refusal);
+    }
+    if u32_at(file, layout::SPARE_END) != 0 {
+        return ParametersAnswer::Refused(refusal);
+    }
+    let answer = Kernel::from_byte(file[layout::KERNEL]);
+    let KernelAnswer::Known(kernel) = answer else {
+        return ParametersAnswer::Refused(answer.refusal());
+    };
+    Parameters::new(
+        file[layout::FEATURES_IN_USE] as usize,
+        kernel,
+        u32_at(file, layout::GRID),
+        u32_at(file, layout::CEILING),
+        u64_at(file, layout::TOLERANCE),
+        u32_at(file, layout::BUDGET),
+    )
+}
