@@ -1,2 +1,3 @@
--- Document 01: what classifying answers, and what holds of it. Assumes nothing.
+-- Document 01: what classifying answers, and the settled examples. Assumes nothing.
 pub mod Classify
+pub mod Settled

@@ -42,7 +42,7 @@ one-step-more o = record { ending = o .ending; steps = suc (o .steps); multiplie
 unfoldable pub run : Problem → ℕ → ℕ → List ℕ → Outcome
 run P t zero a =
     elim (next P t a) [
-      | ends e ↦ record { ending = e; steps = 0; multipliers = a }
+      | ends ending ↦ record { ending = ending; steps = 0; multipliers = a }
       | goes-on b ↦ record { ending = Spent; steps = 0; multipliers = a }
     ]
 run P t (suc limit) a =

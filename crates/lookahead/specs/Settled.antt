@@ -1,0 +1,130 @@
+-- Document 01, "Settled examples": P1 to P12 as one table of inputs and results, and one theorem, by the definitions that the
+-- contracts of the public calls cite. Assumes nothing.
+use mathlib.Core.Path.{_≡_, refl}
+use mathlib.Core.List.{List, [], _∷_, _++_}
+use Prim.Native.Nat.{ℕ}
+use lib.IntN.{ℤ, pos, negsuc}
+use lib.ListN.{replicate}
+use Rattle.integers.specs.Sum.{sum}
+use Rattle.integers.specs.Extremum.{extreme, first}
+use Rattle.integers.specs.Places.{all}
+use Rattle.integers.specs.Written.{written}
+use Rattle.training_file.specs.Parameters.{parametersAllowed}
+use Rattle.training_file.specs.Header.{headerAllowed, lengthAllowed}
+use Rattle.training_file.specs.Item.{allBelow, featuresAllowed}
+use Rattle.training_file.specs.Record.{recordAllowed}
+use Rattle.training_file.specs.Chain.{walk}
+use Rattle.training_file.specs.Reading.{Reading, refused, accepted, every, labelled, reading}
+use Rattle.dual_problem.specs.Problem.{gradient, double-sum, objective}
+use Rattle.dual_problem.specs.Items.{at}
+use Rattle.dual_problem.specs.Certify.{certifying}
+use Rattle.dual_problem.specs.declared.certify.Certified.{Certified}
+use Rattle.dual_problem.specs.declared.certify.Certified.the-variants as certified
+use Rattle.smo.specs.declared.ending.Ending.{Ending}
+use Rattle.smo.specs.declared.ending.Ending.the-variants.{Converged, Stuck, Spent}
+use Rattle.smo.specs.declared.train.Training.the-variants.{Ended}
+use Rattle.smo.specs.Step.{amount, first-candidate, working-pair}
+use Rattle.smo.specs.Run.{next, run}
+use Rattle.smo.specs.Train.{Left, trainRead}
+use Rattle.lookahead.specs.declared.classify.Class.the-variants.{LookedUp, PassedOver}
+use Rattle.lookahead.specs.declared.classify.Classified.{Classified}
+use Rattle.lookahead.specs.declared.classify.Classified.the-variants.{Is}
+use Rattle.lookahead.specs.Classify.{classifying, score}
+
+-- ---- the files, byte for byte: d 1; kernel, S, c, t, budget (each below 256); records chained in their order, by label and feature byte
+abbrev header : (m kernel S c t budget : ℕ) → List ℕ
+header m kernel S c t budget =
+    (m ∷ 0 ∷ 1 ∷ 0 ∷ 1 ∷ kernel ∷ 0 ∷ 0 ∷ S ∷ 0 ∷ 0 ∷ 0 ∷ c ∷ 0 ∷ 0 ∷ 0 ∷ [])
+    ++ (t ∷ 0 ∷ 0 ∷ 0 ∷ 0 ∷ 0 ∷ 0 ∷ 0 ∷ budget ∷ 0 ∷ 0 ∷ 0 ∷ 0 ∷ 0 ∷ 0 ∷ 0 ∷ [])
+
+abbrev stored : (next label feature : ℕ) → List ℕ
+stored next label feature = next ∷ 0 ∷ label ∷ 0 ∷ feature ∷ replicate 15 0
+
+-- "±1 file": item + with feature 1, item − with feature −1, whose byte is 255
+abbrev plus-minus : (kernel S c t budget : ℕ) → List ℕ
+plus-minus kernel S c t budget = header 2 kernel S c t budget ++ stored 2 1 1 ++ stored 0 2 255
+
+abbrev both-one : List ℕ
+both-one = header 2 0 10 7 0 50 ++ stored 2 1 1 ++ stored 0 2 1
+
+abbrev three : List ℕ
+three = header 3 0 1 2 0 50 ++ stored 2 1 10 ++ stored 3 2 246 ++ stored 0 2 10
+
+-- ---- the cases
+pub data Case : Type 0 where
+  -- the file; ending, steps, b_low, b_up; the lent list of three 9s afterwards
+  trains : List ℕ → Ending → ℕ → ℤ → ℤ → List ℕ → Case
+  -- the file, the multipliers; the answer
+  certifies : List ℕ → List ℕ → Certified → Case
+  -- the file, the multipliers, the word; the answer and the value
+  classifies : List ℕ → List ℕ → List ℤ → Classified → ℤ → Case
+
+abbrev trained : List ℕ → Left
+trained file = trainRead (reading file) (replicate 3 9) (replicate 3 (pos 9))
+
+abbrev value : Reading → List ℕ → List ℤ → ℤ
+value (refused number) a word = pos 0
+value (accepted p order items) a word = score p items (at a) word
+
+abbrev pub Holds : Case → Type 0
+Holds (trains file ending steps lower upper left) =
+    (trained file .answer ≡ Ended (record { ending = ending; steps = steps; lower = lower; upper = upper })) × (trained file .multipliers ≡ left)
+Holds (certifies file a answer) = certifying file a ≡ answer
+Holds (classifies file a word answer v) = (classifying file a word ≡ answer) × (value (reading file) a word ≡ v)
+
+abbrev pub AllHold : List Case → Type 0
+AllHold [] = Unit {0}
+AllHold (c ∷ cs) = Holds c × AllHold cs
+
+abbrev refusal : ℕ → Certified
+refusal number = certified.Refused (record { number = number })
+
+abbrev pub settled-examples : List Case
+settled-examples =
+    trains (plus-minus 0 10 100 0 50) Converged 1 (pos 0) (pos 0) (5 ∷ 5 ∷ 9 ∷ [])  -- P1
+    ∷ trains (plus-minus 0 10 3 0 50) Converged 1 (negsuc 3) (pos 4) (3 ∷ 3 ∷ 9 ∷ [])  -- P2
+    ∷ trains (plus-minus 0 1 10 0 50) Stuck 0 (pos 1) (negsuc 0) (0 ∷ 0 ∷ 9 ∷ [])  -- P3
+    ∷ trains (plus-minus 0 1 10 1 50) Converged 0 (pos 1) (negsuc 0) (0 ∷ 0 ∷ 9 ∷ [])  -- P4
+    ∷ trains (plus-minus 0 1 10 0 0) Stuck 0 (pos 1) (negsuc 0) (0 ∷ 0 ∷ 9 ∷ [])  -- P5
+    ∷ trains (plus-minus 0 10 100 0 0) Spent 0 (pos 10) (negsuc 9) (0 ∷ 0 ∷ 9 ∷ [])  -- P6
+    ∷ trains both-one Converged 1 (negsuc 9) (pos 10) (7 ∷ 7 ∷ 9 ∷ [])  -- P7
+    ∷ trains (plus-minus 1 16 100 0 50) Converged 1 (pos 0) (pos 0) (4 ∷ 4 ∷ 9 ∷ [])  -- P8
+    ∷ trains three Converged 1 (pos 1) (pos 1) (2 ∷ 0 ∷ 2 ∷ [])  -- P9
+    ∷ certifies (plus-minus 0 10 100 0 50) (0 ∷ 0 ∷ []) (certified.Accepted (record { lower = pos 10; upper = negsuc 9 }))  -- P10
+    ∷ certifies (plus-minus 0 10 100 0 50) (5 ∷ 4 ∷ []) (refusal 8)  -- P11
+    ∷ certifies (plus-minus 0 10 100 0 50) (101 ∷ 100 ∷ []) (refusal 7)
+    ∷ classifies (plus-minus 0 10 100 0 50) (5 ∷ 5 ∷ []) (pos 3 ∷ []) (Is LookedUp) (pos 60)  -- P12
+    ∷ classifies (plus-minus 0 10 100 0 50) (5 ∷ 5 ∷ []) (pos 0 ∷ []) (Is PassedOver) (pos 0)
+    ∷ []
+
+pub settled : AllHold settled-examples
+unfolding
+    reading lengthAllowed headerAllowed parametersAllowed walk every recordAllowed featuresAllowed allBelow labelled sum extreme first all written gradient double-sum objective amount first-candidate working-pair next run score
+settled = (
+  (refl, refl),
+  (
+    (refl, refl),
+    (
+      (refl, refl),
+      (
+        (refl, refl),
+        (
+          (refl, refl),
+          (
+            (refl, refl),
+            (
+              (refl, refl),
+              (
+                (refl, refl),
+                (
+                  (refl, refl),
+                  (refl, (refl, (refl, ((refl, refl), ((refl, refl), tt))))),
+                ),
+              ),
+            ),
+          ),
+        ),
+      ),
+    ),
+  ),
+)
