@@ -1,0 +1,15 @@
+-- What a call for classifying answers in C, by what the library answers. Assumes nothing.
+use Prim.Native.Nat.{ℕ}
+use Rattle.lookahead.specs.declared.classify.Classified.{Classified}
+use Rattle.lookahead.specs.declared.classify.Classified.the-variants.{Refused, Is}
+use Rattle.lookahead_c.specs.Numbering.{classNumber}
+
+-- 0, or the refusal's number
+abbrev pub classifyNumber : Classified → ℕ
+classifyNumber (Refused why) = why .number
+classifyNumber (Is class) = 0
+
+-- the lent number after the call, by the one before it: a refusal does not change it
+abbrev pub classifyFound : Classified → ℕ → ℕ
+classifyFound (Refused why) before = before
+classifyFound (Is class) before = classNumber class

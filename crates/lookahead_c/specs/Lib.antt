@@ -1,0 +1,6 @@
+-- What the calls for C answer, by what the library answers. Assumes nothing.
+pub mod Certifying
+pub mod Classifying
+pub mod Numbering
+pub mod Refusals
+pub mod Training

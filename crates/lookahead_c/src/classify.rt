@@ -1,0 +1,28 @@
+// Classifying, for C.
+
+ghost use mathlib.Core.Path.{_≡_};
+ghost use Rattle.lookahead.specs.Classify.{classifying};
+ghost use Rattle.lookahead_c.specs.Classifying.{classifyFound, classifyNumber};
+use super::numbering::class_number;
+use lookahead::classify::Classified;
+
+// The class is written only where there is one: a refusal leaves it as it was.
+#[no_mangle]
+pub extern "C" fn lookahead_classify(
+    file: &[u8],
+    multipliers: &[u32],
+    word: &[i8],
+    class: &mut u8,
+) -> u8
+    ensures number { λ r. ⌜ r ≡ classifyNumber (classifying (now (file .entry)) (now (multipliers .entry)) (now (word .entry))) ⌝ }
+    ensures found { λ r. ⌜ now (class .exit) ≡ classifyFound (classifying (now (file .entry)) (now (multipliers .entry)) (now (word .entry))) (now (class .entry)) ⌝ }
+{
+    let classified = lookahead::classify::classify(file, multipliers, word);
+    match classified {
+        Classified::Refused(refusal) => refusal.number,
+        Classified::Is(found) => {
+            *class = class_number(found);
+            0
+        }
+    }
+}

@@ -1,0 +1,40 @@
+// Training, for C.
+
+ghost use mathlib.Core.Path.{_≡_};
+ghost use Rattle.training_file.specs.Reading.{reading};
+ghost use Rattle.smo.specs.Train.{trainRead};
+ghost use Rattle.lookahead_c.specs.Training.{trainFound, trainNumber};
+use super::numbering::ending_number;
+use smo::train::Training;
+
+// The lists are the library's to fill; the four numbers are written here, and only after the library has refused nothing.
+#[no_mangle]
+pub extern "C" fn lookahead_train(
+    file: &[u8],
+    multipliers: &mut [u32],
+    gradient: &mut [i64],
+    ending: &mut u8,
+    steps: &mut u32,
+    lower: &mut i64,
+    upper: &mut i64,
+) -> u8
+    ensures number { λ r. ⌜ r ≡ trainNumber (trainRead (reading (now (file .entry))) (now (multipliers .entry)) (now (gradient .entry)) .answer) ⌝ }
+    ensures lists { λ r. ⌜ (now (multipliers .exit) ≡ trainRead (reading (now (file .entry))) (now (multipliers .entry)) (now (gradient .entry)) .multipliers) × (now (gradient .exit) ≡ trainRead (reading (now (file .entry))) (now (multipliers .entry)) (now (gradient .entry)) .gradient) ⌝ }
+    ensures found { λ r. ⌜ record { ending = now (ending .exit); steps = now (steps .exit); lower = now (lower .exit); upper = now (upper .exit) } ≡ trainFound (trainRead (reading (now (file .entry))) (now (multipliers .entry)) (now (gradient .entry)) .answer) (record { ending = now (ending .entry); steps = now (steps .entry); lower = now (lower .entry); upper = now (upper .entry) }) ⌝ }
+{
+    let training = lookahead::train::train(file, multipliers, gradient);
+    match training {
+        Training::Refused(refusal) => refusal.number,
+        Training::Ended(trained) => {
+            // The checker follows a signed number or an enum that is passed on from a local, not from a field.
+            let why = trained.ending;
+            let b_low = trained.lower;
+            let b_up = trained.upper;
+            *ending = ending_number(why);
+            *steps = trained.steps;
+            *lower = b_low;
+            *upper = b_up;
+            0
+        }
+    }
+}

@@ -1,0 +1,219 @@
+//! Trains on a small file, certifies the result and classifies two words.
+
+/// The library's calls behind safe functions: a slice brings its length along,
+/// and what a call writes is a place of its own.
+mod lookahead {
+    extern "C" {
+        fn lookahead_train(
+            file: *const u8,
+            file_len: usize,
+            multipliers: *mut u32,
+            multipliers_len: usize,
+            gradient: *mut i64,
+            gradient_len: usize,
+            ending: *mut u8,
+            steps: *mut u32,
+            lower: *mut i64,
+            upper: *mut i64,
+        ) -> u8;
+        fn lookahead_certify(
+            file: *const u8,
+            file_len: usize,
+            multipliers: *const u32,
+            multipliers_len: usize,
+            lower: *mut i64,
+            upper: *mut i64,
+        ) -> u8;
+        fn lookahead_classify(
+            file: *const u8,
+            file_len: usize,
+            multipliers: *const u32,
+            multipliers_len: usize,
+            word: *const i8,
+            word_len: usize,
+            class: *mut u8,
+        ) -> u8;
+    }
+
+    /// The number of a refusal, 1 to 9; include/lookahead.h says what each means.
+    #[derive(Debug)]
+    pub struct Refusal(pub u8);
+
+    #[derive(Default)]
+    pub struct Thresholds {
+        pub lower: i64,
+        pub upper: i64,
+    }
+
+    pub enum Ending {
+        Converged,
+        Stuck,
+        Spent,
+    }
+
+    pub struct Trained {
+        pub ending: Ending,
+        pub steps: u32,
+        pub thresholds: Thresholds,
+    }
+
+    #[derive(PartialEq)]
+    pub enum Class {
+        LookedUp,
+        PassedOver,
+    }
+
+    fn unless_refused<T>(number: u8, answer: T) -> Result<T, Refusal> {
+        match number {
+            0 => Ok(answer),
+            refusal => Err(Refusal(refusal)),
+        }
+    }
+
+    /// Fills the first places of both lists, one for each item.
+    pub fn train(
+        file: &[u8],
+        multipliers: &mut [u32],
+        gradient: &mut [i64],
+    ) -> Result<Trained, Refusal> {
+        let (mut ending, mut steps) = (0, 0);
+        let mut thresholds = Thresholds::default();
+        // SAFETY: every pointer is a reference's, and comes with its slice's length.
+        let number = unsafe {
+            lookahead_train(
+                file.as_ptr(),
+                file.len(),
+                multipliers.as_mut_ptr(),
+                multipliers.len(),
+                gradient.as_mut_ptr(),
+                gradient.len(),
+                &mut ending,
+                &mut steps,
+                &mut thresholds.lower,
+                &mut thresholds.upper,
+            )
+        };
+        let ending = match ending {
+            1 => Ending::Converged,
+            2 => Ending::Stuck,
+            _ => Ending::Spent,
+        };
+        unless_refused(
+            number,
+            Trained {
+                ending,
+                steps,
+                thresholds,
+            },
+        )
+    }
+
+    pub fn certify(file: &[u8], multipliers: &[u32]) -> Result<Thresholds, Refusal> {
+        let mut thresholds = Thresholds::default();
+        // SAFETY: as in `train`.
+        let number = unsafe {
+            lookahead_certify(
+                file.as_ptr(),
+                file.len(),
+                multipliers.as_ptr(),
+                multipliers.len(),
+                &mut thresholds.lower,
+                &mut thresholds.upper,
+            )
+        };
+        unless_refused(number, thresholds)
+    }
+
+    pub fn classify(file: &[u8], multipliers: &[u32], word: &[i8]) -> Result<Class, Refusal> {
+        let mut class = 0;
+        // SAFETY: as in `train`.
+        let number = unsafe {
+            lookahead_classify(
+                file.as_ptr(),
+                file.len(),
+                multipliers.as_ptr(),
+                multipliers.len(),
+                word.as_ptr(),
+                word.len(),
+                &mut class,
+            )
+        };
+        let class = if class == 1 {
+            Class::LookedUp
+        } else {
+            Class::PassedOver
+        };
+        unless_refused(number, class)
+    }
+}
+
+use lookahead::{Class, Ending, Refusal};
+
+/// Two items of one feature: 1 was looked up, -1 was passed over.
+fn small_file() -> Vec<u8> {
+    let mut file = Vec::new();
+    file.extend(2u16.to_le_bytes()); // records
+    file.extend(1u16.to_le_bytes()); // the first record of the chain
+    file.extend([1, 0, 0, 0]); // one feature in use, the linear kernel, spare
+    file.extend(10u32.to_le_bytes()); // grid units per 1
+    file.extend(100u32.to_le_bytes()); // ceiling of a multiplier
+    file.extend(0u64.to_le_bytes()); // tolerance
+    file.extend(50u32.to_le_bytes()); // step budget
+    file.extend([0; 4]); // spare
+    file.extend(record(2, 1, 1));
+    file.extend(record(0, 2, -1));
+    file
+}
+
+/// A record with one feature: the next record's number, the label (1 looked up,
+/// 2 passed over) and the feature.
+fn record(next: u16, label: u8, feature: i8) -> [u8; 20] {
+    let mut record = [0; 20];
+    record[..2].copy_from_slice(&next.to_le_bytes());
+    record[2] = label;
+    record[4] = feature as u8;
+    record
+}
+
+fn ending_name(ending: Ending) -> &'static str {
+    match ending {
+        Ending::Converged => "converged",
+        Ending::Stuck => "stuck",
+        Ending::Spent => "spent",
+    }
+}
+
+fn print_certified(call: &str, file: &[u8], multipliers: &[u32]) {
+    match lookahead::certify(file, multipliers) {
+        Ok(found) => println!("{call}: lower {}, upper {}", found.lower, found.upper),
+        Err(Refusal(number)) => println!("{call}: refused with {number}"),
+    }
+}
+
+fn print_class(file: &[u8], multipliers: &[u32], feature: i8) {
+    match lookahead::classify(file, multipliers, &[feature]) {
+        Ok(Class::LookedUp) => println!("classify {feature}: looked up"),
+        Ok(Class::PassedOver) => println!("classify {feature}: passed over"),
+        Err(Refusal(number)) => println!("classify {feature}: refused with {number}"),
+    }
+}
+
+fn main() -> Result<(), Refusal> {
+    let file = small_file();
+    let (mut multipliers, mut gradient) = ([0; 2], [0; 2]);
+    let trained = lookahead::train(&file, &mut multipliers, &mut gradient)?;
+    let unit = if trained.steps == 1 { "step" } else { "steps" };
+    println!(
+        "train: {} after {} {unit}",
+        ending_name(trained.ending),
+        trained.steps
+    );
+    println!("multipliers: {} {}", multipliers[0], multipliers[1]);
+    let found = trained.thresholds;
+    println!("thresholds: lower {}, upper {}", found.lower, found.upper);
+    print_certified("certify", &file, &multipliers);
+    print_class(&file, &multipliers, 3);
+    print_class(&file, &multipliers, 0);
+    print_certified("certify 5 4", &file, &[5, 4]);
+    Ok(())
+}

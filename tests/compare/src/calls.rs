@@ -1,0 +1,162 @@
+//! The calls made for one file, each answered by the library and the reference.
+
+use crate::expected;
+use crate::library::{self, CertifyAnswer, ClassifyAnswer, TrainAnswer};
+use crate::report::{Difference, Tally};
+use reference::file::{read, Problem};
+use reference::generate::{caller, Random};
+
+/// All calls for one file; the first difference ends them.
+pub fn compare(file: &[u8], random: &mut Random, tally: &mut Tally) -> Result<(), Box<Difference>> {
+    let problem = read(file).ok();
+    let trained = compare_train(file, problem.as_ref(), random, tally)?;
+    for _ in 0..2 {
+        let multipliers = draw_multipliers(problem.as_ref(), &trained, random);
+        compare_certify(file, &multipliers, random, tally)?;
+    }
+    for _ in 0..3 {
+        let multipliers = draw_multipliers(problem.as_ref(), &trained, random);
+        let word = draw_word(problem.as_ref(), random);
+        compare_classify(file, &multipliers, &word, random, tally)?;
+    }
+    Ok(())
+}
+
+/// Trains into lists that are long enough, and on some files into a list that
+/// is too short. Gives the multipliers that training leaves.
+fn compare_train(
+    file: &[u8],
+    problem: Option<&Problem>,
+    random: &mut Random,
+    tally: &mut Tally,
+) -> Result<Vec<u32>, Box<Difference>> {
+    let n = problem.map_or(random.below(5) as usize, |problem| problem.items.len());
+    if random.chance(1, 5) {
+        let (multipliers, gradient) = too_short(n, random);
+        compare_one_training(file, multipliers, gradient, random, tally)?;
+    }
+    let longer = |random: &mut Random| n + random.pick(&[0, 1, 3, 300]);
+    let (multipliers, gradient) = (longer(random), longer(random));
+    let mut left = compare_one_training(file, multipliers, gradient, random, tally)?;
+    left.truncate(n);
+    Ok(left)
+}
+
+/// Lengths of which one or both are under n.
+fn too_short(n: usize, random: &mut Random) -> (usize, usize) {
+    let under = n.saturating_sub(random.pick(&[1, 1, 2, 256]));
+    match random.below(3) {
+        0 => (under, n),
+        1 => (n + 1, under),
+        _ => (under, under),
+    }
+}
+
+fn compare_one_training(
+    file: &[u8],
+    multipliers: usize,
+    gradient: usize,
+    random: &mut Random,
+    tally: &mut Tally,
+) -> Result<Vec<u32>, Box<Difference>> {
+    let before = TrainAnswer {
+        number: 0,
+        ending: random.draw() as u8,
+        steps: random.draw() as u32,
+        lower: random.draw() as i64,
+        upper: random.draw() as i64,
+        multipliers: (0..multipliers).map(|_| random.draw() as u32).collect(),
+        gradient: (0..gradient).map(|_| random.draw() as i64).collect(),
+        surroundings_kept: true,
+    };
+    let expected = expected::train(file, &before);
+    let answered = library::train(file, &before, random);
+    tally.count("train", expected.number, expected.ending);
+    if expected == answered {
+        return Ok(expected.multipliers);
+    }
+    Err(Difference::boxed(
+        "train",
+        file,
+        &before.multipliers,
+        &[],
+        &expected,
+        &answered,
+    ))
+}
+
+fn compare_certify(
+    file: &[u8],
+    multipliers: &[u32],
+    random: &mut Random,
+    tally: &mut Tally,
+) -> Result<(), Box<Difference>> {
+    let (lower, upper) = (random.draw() as i64, random.draw() as i64);
+    let before = CertifyAnswer {
+        number: 0,
+        lower,
+        upper,
+        surroundings_kept: true,
+    };
+    let expected = expected::certify(file, multipliers, &before);
+    let answered = library::certify(file, multipliers, &before, random);
+    tally.count("certify", expected.number, 0);
+    if expected == answered {
+        return Ok(());
+    }
+    Err(Difference::boxed(
+        "certify",
+        file,
+        multipliers,
+        &[],
+        &expected,
+        &answered,
+    ))
+}
+
+fn compare_classify(
+    file: &[u8],
+    multipliers: &[u32],
+    word: &[i8],
+    random: &mut Random,
+    tally: &mut Tally,
+) -> Result<(), Box<Difference>> {
+    let before = ClassifyAnswer {
+        number: 0,
+        class: random.draw() as u8,
+        surroundings_kept: true,
+    };
+    let expected = expected::classify(file, multipliers, word, &before);
+    let answered = library::classify(file, multipliers, word, &before, random);
+    tally.count("classify", expected.number, expected.class);
+    if expected == answered {
+        return Ok(());
+    }
+    Err(Difference::boxed(
+        "classify",
+        file,
+        multipliers,
+        word,
+        &expected,
+        &answered,
+    ))
+}
+
+fn draw_multipliers(problem: Option<&Problem>, trained: &[u32], random: &mut Random) -> Vec<u32> {
+    let Some(problem) = problem else {
+        return caller::any_multipliers(random);
+    };
+    match random.below(10) {
+        0..=2 => trained.to_vec(),
+        3..=6 => caller::feasible(problem, random),
+        _ => caller::spoilt_multipliers(problem, random),
+    }
+}
+
+fn draw_word(problem: Option<&Problem>, random: &mut Random) -> Vec<i8> {
+    match problem {
+        None => caller::any_word(random),
+        Some(problem) if random.chance(1, 4) => caller::spoilt_word(problem, random),
+        Some(problem) => caller::word(problem, random),
+    }
+}

@@ -1,0 +1,71 @@
+//! What the reference expects to be seen after a call: its answer where it
+//! gives one, and what stood there before where it refuses.
+
+use crate::library::{CertifyAnswer, ClassifyAnswer, TrainAnswer};
+use reference::{Class, Ending};
+
+/// "ending: 1 converged, 2 stuck, 3 spent" of the C interface.
+fn ending_number(ending: Ending) -> u8 {
+    match ending {
+        Ending::Converged => 1,
+        Ending::Stuck => 2,
+        Ending::Spent => 3,
+    }
+}
+
+/// "class: 1 looked up, 2 passed over" of the C interface.
+fn class_number(class: Class) -> u8 {
+    match class {
+        Class::LookedUp => 1,
+        Class::PassedOver => 2,
+    }
+}
+
+pub fn train(file: &[u8], before: &TrainAnswer) -> TrainAnswer {
+    let mut after = before.clone();
+    match reference::train(file, &mut after.multipliers, &mut after.gradient) {
+        Err(number) => after.number = number,
+        Ok(trained) => {
+            after.number = 0;
+            after.ending = ending_number(trained.ending);
+            after.steps = trained.steps;
+            after.lower = trained.lower;
+            after.upper = trained.upper;
+        }
+    }
+    after
+}
+
+pub fn certify(file: &[u8], multipliers: &[u32], before: &CertifyAnswer) -> CertifyAnswer {
+    match reference::certify(file, multipliers) {
+        Err(number) => CertifyAnswer {
+            number,
+            ..before.clone()
+        },
+        Ok((lower, upper)) => CertifyAnswer {
+            number: 0,
+            lower,
+            upper,
+            ..before.clone()
+        },
+    }
+}
+
+pub fn classify(
+    file: &[u8],
+    multipliers: &[u32],
+    word: &[i8],
+    before: &ClassifyAnswer,
+) -> ClassifyAnswer {
+    match reference::classify(file, multipliers, word) {
+        Err(number) => ClassifyAnswer {
+            number,
+            ..before.clone()
+        },
+        Ok(class) => ClassifyAnswer {
+            number: 0,
+            class: class_number(class),
+            ..before.clone()
+        },
+    }
+}

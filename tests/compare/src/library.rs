@@ -1,0 +1,193 @@
+//! The library under test, called over its C interface.
+//!
+//! Everything that is lent stands between random places, which must be found
+//! again as they were; the file, the multipliers and the word that a call may
+//! only read are looked at afterwards too.
+
+use reference::generate::Random;
+
+extern "C" {
+    fn lookahead_train(
+        file: *const u8,
+        file_len: usize,
+        multipliers: *mut u32,
+        multipliers_len: usize,
+        gradient: *mut i64,
+        gradient_len: usize,
+        ending: *mut u8,
+        steps: *mut u32,
+        lower: *mut i64,
+        upper: *mut i64,
+    ) -> u8;
+    fn lookahead_certify(
+        file: *const u8,
+        file_len: usize,
+        multipliers: *const u32,
+        multipliers_len: usize,
+        lower: *mut i64,
+        upper: *mut i64,
+    ) -> u8;
+    fn lookahead_classify(
+        file: *const u8,
+        file_len: usize,
+        multipliers: *const u32,
+        multipliers_len: usize,
+        word: *const i8,
+        word_len: usize,
+        class: *mut u8,
+    ) -> u8;
+}
+
+/// Places kept on either side of what is lent.
+const MARGIN: usize = 4;
+
+/// A list between random places.
+struct Lent<T> {
+    places: Vec<T>,
+    before: Vec<T>,
+    length: usize,
+}
+
+impl<T: Copy + PartialEq> Lent<T> {
+    fn new(contents: &[T], margin: impl FnMut() -> T) -> Lent<T> {
+        let mut places: Vec<T> = std::iter::repeat_with(margin).take(2 * MARGIN).collect();
+        places.splice(MARGIN..MARGIN, contents.iter().copied());
+        Lent {
+            before: places.clone(),
+            places,
+            length: contents.len(),
+        }
+    }
+
+    fn read(&self) -> *const T {
+        self.places[MARGIN..].as_ptr()
+    }
+
+    fn write(&mut self) -> *mut T {
+        self.places[MARGIN..].as_mut_ptr()
+    }
+
+    fn contents(&self) -> Vec<T> {
+        self.places[MARGIN..MARGIN + self.length].to_vec()
+    }
+
+    fn margins_kept(&self) -> bool {
+        let end = MARGIN + self.length;
+        self.places[..MARGIN] == self.before[..MARGIN] && self.places[end..] == self.before[end..]
+    }
+
+    fn kept(&self) -> bool {
+        self.places == self.before
+    }
+}
+
+/// All that can be seen after a training call.
+#[derive(Clone, PartialEq, Eq, Debug)]
+pub struct TrainAnswer {
+    pub number: u8,
+    pub ending: u8,
+    pub steps: u32,
+    pub lower: i64,
+    pub upper: i64,
+    pub multipliers: Vec<u32>,
+    pub gradient: Vec<i64>,
+    pub surroundings_kept: bool,
+}
+
+/// All that can be seen after a certifying call.
+#[derive(Clone, PartialEq, Eq, Debug)]
+pub struct CertifyAnswer {
+    pub number: u8,
+    pub lower: i64,
+    pub upper: i64,
+    pub surroundings_kept: bool,
+}
+
+/// All that can be seen after a classifying call.
+#[derive(Clone, PartialEq, Eq, Debug)]
+pub struct ClassifyAnswer {
+    pub number: u8,
+    pub class: u8,
+    pub surroundings_kept: bool,
+}
+
+/// Calls training on what `before` holds and gives what stands there after.
+pub fn train(file: &[u8], before: &TrainAnswer, random: &mut Random) -> TrainAnswer {
+    let file = Lent::new(file, || random.draw() as u8);
+    let mut multipliers = Lent::new(&before.multipliers, || random.draw() as u32);
+    let mut gradient = Lent::new(&before.gradient, || random.draw() as i64);
+    let mut after = before.clone();
+    // SAFETY: every pointer is to a list of the length handed over with it, or
+    // to a place of its own.
+    after.number = unsafe {
+        lookahead_train(
+            file.read(),
+            file.length,
+            multipliers.write(),
+            multipliers.length,
+            gradient.write(),
+            gradient.length,
+            &mut after.ending,
+            &mut after.steps,
+            &mut after.lower,
+            &mut after.upper,
+        )
+    };
+    after.multipliers = multipliers.contents();
+    after.gradient = gradient.contents();
+    after.surroundings_kept = file.kept() && multipliers.margins_kept() && gradient.margins_kept();
+    after
+}
+
+/// Calls certifying; the thresholds of `before` stand there ahead of the call.
+pub fn certify(
+    file: &[u8],
+    multipliers: &[u32],
+    before: &CertifyAnswer,
+    random: &mut Random,
+) -> CertifyAnswer {
+    let file = Lent::new(file, || random.draw() as u8);
+    let multipliers = Lent::new(multipliers, || random.draw() as u32);
+    let mut after = before.clone();
+    // SAFETY: as in `train`.
+    after.number = unsafe {
+        lookahead_certify(
+            file.read(),
+            file.length,
+            multipliers.read(),
+            multipliers.length,
+            &mut after.lower,
+            &mut after.upper,
+        )
+    };
+    after.surroundings_kept = file.kept() && multipliers.kept();
+    after
+}
+
+/// Calls classifying; the class of `before` stands there ahead of the call.
+pub fn classify(
+    file: &[u8],
+    multipliers: &[u32],
+    word: &[i8],
+    before: &ClassifyAnswer,
+    random: &mut Random,
+) -> ClassifyAnswer {
+    let file = Lent::new(file, || random.draw() as u8);
+    let multipliers = Lent::new(multipliers, || random.draw() as u32);
+    let word = Lent::new(word, || random.draw() as i8);
+    let mut after = before.clone();
+    // SAFETY: as in `train`.
+    after.number = unsafe {
+        lookahead_classify(
+            file.read(),
+            file.length,
+            multipliers.read(),
+            multipliers.length,
+            word.read(),
+            word.length,
+            &mut after.class,
+        )
+    };
+    after.surroundings_kept = file.kept() && multipliers.kept() && word.kept();
+    after
+}

@@ -1,0 +1,88 @@
+//! The reference itself behind the C interface: a comparison with it can find no
+//! difference, and shows that a Rust static library can be linked.
+
+use reference::{Class, Ending};
+use std::slice;
+
+/// # Safety
+/// The pointers are to lists of the lengths given, or to single places.
+#[no_mangle]
+pub unsafe extern "C" fn lookahead_train(
+    file: *const u8,
+    file_len: usize,
+    multipliers: *mut u32,
+    multipliers_len: usize,
+    gradient: *mut i64,
+    gradient_len: usize,
+    ending: *mut u8,
+    steps: *mut u32,
+    lower: *mut i64,
+    upper: *mut i64,
+) -> u8 {
+    let file = slice::from_raw_parts(file, file_len);
+    let multipliers = slice::from_raw_parts_mut(multipliers, multipliers_len);
+    let gradient = slice::from_raw_parts_mut(gradient, gradient_len);
+    let trained = match reference::train(file, multipliers, gradient) {
+        Err(number) => return number,
+        Ok(trained) => trained,
+    };
+    *ending = match trained.ending {
+        Ending::Converged => 1,
+        Ending::Stuck => 2,
+        Ending::Spent => 3,
+    };
+    *steps = trained.steps;
+    *lower = trained.lower;
+    *upper = trained.upper;
+    0
+}
+
+/// # Safety
+/// As for training.
+#[no_mangle]
+pub unsafe extern "C" fn lookahead_certify(
+    file: *const u8,
+    file_len: usize,
+    multipliers: *const u32,
+    multipliers_len: usize,
+    lower: *mut i64,
+    upper: *mut i64,
+) -> u8 {
+    let file = slice::from_raw_parts(file, file_len);
+    let multipliers = slice::from_raw_parts(multipliers, multipliers_len);
+    match reference::certify(file, multipliers) {
+        Err(number) => number,
+        Ok((b_low, b_up)) => {
+            *lower = b_low;
+            *upper = b_up;
+            0
+        }
+    }
+}
+
+/// # Safety
+/// As for training.
+#[no_mangle]
+pub unsafe extern "C" fn lookahead_classify(
+    file: *const u8,
+    file_len: usize,
+    multipliers: *const u32,
+    multipliers_len: usize,
+    word: *const i8,
+    word_len: usize,
+    class: *mut u8,
+) -> u8 {
+    let file = slice::from_raw_parts(file, file_len);
+    let multipliers = slice::from_raw_parts(multipliers, multipliers_len);
+    let word = slice::from_raw_parts(word, word_len);
+    match reference::classify(file, multipliers, word) {
+        Err(number) => number,
+        Ok(answer) => {
+            *class = match answer {
+                Class::LookedUp => 1,
+                Class::PassedOver => 2,
+            };
+            0
+        }
+    }
+}

@@ -1,0 +1,282 @@
+/* A quick stand-in for the library under test, to try the comparison with.
+ *
+ * It works otherwise than the reference: G is carried along from move to move,
+ * and the amount of a move comes from a formula. So a run without a mutation
+ * also checks the reference. MUTATION (0 is none) makes one thing wrong; the
+ * comparison has to find each. The list is in mutations.txt. */
+
+#include "lookahead.h"
+#include <string.h>
+
+#ifndef MUTATION
+#define MUTATION 0
+#endif
+#define WRONG(k) (MUTATION == (k))
+
+enum { MOST = 256 };
+
+typedef struct {
+    int d, kernel, n, record[MOST], y[MOST];
+    int64_t S, c, t;
+    uint32_t budget;
+    const int8_t *x[MOST];
+    int64_t a[MOST], G[MOST], lower, upper;
+    int at_lower, at_upper;
+} Problem;
+
+static uint64_t field(const uint8_t *p, int width) {
+    uint64_t v = 0;
+    while (width-- > 0) v = v << 8 | p[width];
+    return v;
+}
+
+static int64_t kernel(const Problem *p, const int8_t *u, const int8_t *v) {
+    int64_t sum = 0;
+    for (int k = 0; k < p->d - WRONG(42) * (p->d > 15); k++) sum += u[k] * v[k];
+    if (p->kernel == 0) return sum;
+    if (WRONG(15)) return sum * sum;
+    sum += 1;
+    return WRONG(28) ? (int32_t)(uint32_t)(sum * sum) : sum * sum;
+}
+
+/* 4, or 0 for a sound record. */
+static uint8_t judge_record(const uint8_t *r, int d) {
+    if (WRONG(34) ? r[2] == 0 : r[2] != 1 && r[2] != 2) return 4;
+    if (r[3] != 0 && !WRONG(33)) return 4;
+    for (int k = 0; k < 16; k++) {
+        int8_t f = (int8_t)r[4 + k];
+        int highest = WRONG(29) ? 101 : 100, lowest = WRONG(30) ? -101 : WRONG(43) ? -99 : -100;
+        if (f < lowest || f > highest) return 4;
+        if (k >= d && f != 0 && !WRONG(44)) return 4;
+    }
+    return 0;
+}
+
+static uint8_t read_file(Problem *p, const uint8_t *f, size_t len) {
+    if (len < 32 + (size_t)WRONG(80)) return 1;
+    size_t m = field(f, 2), first = field(f + 2, 2);
+    if (m > 256 - (size_t)WRONG(31)) return 1;
+    if (WRONG(37) ? len < 32 + 20 * m : len != 32 + 20 * m) return 1;
+    uint64_t t = field(f + 16, 8);
+    p->d = f[4];
+    p->kernel = f[5];
+    p->S = (int64_t)field(f + 8, 4);
+    p->c = (int64_t)field(f + 12, 4);
+    p->budget = (uint32_t)field(f + 24, 4);
+    if (first > m) return WRONG(18) ? 3 : 2;
+    if (p->d < 1 || p->d > 16 - WRONG(85) || p->kernel > 1 || f[6] || f[7]) return 2;
+    if (p->S < 1 || p->S > 1048576 - WRONG(83) || p->c < 1 || p->c > 65536 + WRONG(45) - WRONG(84)) return 2;
+    if (WRONG(32) ? (int64_t)t > 1000000000000 : t > 1000000000000u - WRONG(82)) return 2;
+    p->t = (int64_t)t;
+    if (p->budget > 1000000 - WRONG(81)) return 2;
+    if (f[28] || f[29] || f[30] || (f[31] && !WRONG(46))) return 2;
+    if (WRONG(16))
+        for (size_t k = 0; k < m; k++)
+            if (judge_record(f + 32 + 20 * k, p->d)) return 4;
+    int n = 0;
+    for (size_t next = first; next != 0; n++) {
+        if (next > m || (size_t)n + WRONG(69) == m) return 3;
+        const uint8_t *r = f + 32 + 20 * (next - 1);
+        if (WRONG(17) && judge_record(r, p->d)) return 4;
+        p->record[n] = (int)next;
+        p->y[n] = r[2] == 1 ? 1 : -1;
+        p->x[n] = (const int8_t *)r + 4;
+        next = WRONG(47) ? r[0] : field(r, 2);
+    }
+    p->n = n;
+    int plus = 0;
+    for (int i = 0; i < n; i++) plus += p->y[i] == 1;
+    int one_sided = plus == 0 || (plus == n && !WRONG(48));
+    if (WRONG(19) && one_sided) return 5;
+    for (int i = 0; i < n; i++) {
+        uint8_t wrong = judge_record(f + 32 + 20 * (p->record[i] - 1), p->d);
+        if (wrong) return wrong;
+    }
+    return one_sided ? 5 : 0;
+}
+
+static int can_rise(const Problem *p, int i) { return p->a[i] < p->c - WRONG(86); }
+static int can_fall(const Problem *p, int i) { return p->a[i] > 0; }
+static int in_up(const Problem *p, int i) { return p->y[i] > 0 || WRONG(35) ? can_rise(p, i) : can_fall(p, i); }
+static int in_low(const Problem *p, int i) { return p->y[i] > 0 ? can_fall(p, i) : can_rise(p, i); }
+
+static void set_thresholds(Problem *p) {
+    p->at_lower = p->at_upper = -1;
+    for (int i = 0; i < p->n; i++) {
+        int64_t G = p->G[i];
+        if ((in_low(p, i) || WRONG(70)) && (p->at_lower < 0 || G > p->lower || (WRONG(3) && G == p->lower))) p->lower = G, p->at_lower = i;
+        if (in_up(p, i) && (p->at_upper < 0 || G < p->upper || (WRONG(4) && G == p->upper))) p->upper = G, p->at_upper = i;
+    }
+}
+
+static void set_gradient(Problem *p) {
+    for (int i = 0; i < p->n; i++) {
+        p->G[i] = -p->S * p->y[i];
+        for (int j = 0; j < p->n; j++) p->G[i] += p->a[j] * p->y[j] * kernel(p, p->x[i], p->x[j]);
+        if (WRONG(49)) p->G[i] = (int32_t)(uint32_t)p->G[i];
+        if (WRONG(88)) p->G[i] = (int64_t)(double)p->G[i];
+    }
+}
+
+static int64_t eta(const Problem *p, int i, int j) {
+    return kernel(p, p->x[i], p->x[i]) + kernel(p, p->x[j], p->x[j]) - (WRONG(50) ? 1 : 2) * kernel(p, p->x[i], p->x[j]);
+}
+
+static int moves(const Problem *p, int i, int j) {
+    int64_t g = p->G[i] - p->G[j], e = eta(p, i, j);
+    if (i == j || (WRONG(5) && e == 0)) return 0;
+    if (WRONG(51)) return g > e;
+    return WRONG(14) ? g > 0 && 2 * g >= e : 2 * g > e;
+}
+
+static int find_pair(const Problem *p, int *pi, int *pj) {
+    *pi = p->at_lower;
+    *pj = p->at_upper;
+    for (int k = p->n; k-- > 0;) {
+        if (WRONG(72) && p->G[k] == p->lower) *pi = k;
+        if (WRONG(73) && p->G[k] == p->upper) *pj = k;
+    }
+    if (!WRONG(52) && moves(p, *pi, *pj)) return 1;
+    if (WRONG(53)) return 0;
+    int64_t best = -1;
+    for (int u = 0; u < p->n; u++)
+        for (int v = 0; v < p->n; v++) {
+            int i = WRONG(10) ? v : WRONG(54) ? p->n - 1 - u : u, j = WRONG(10) ? u : v;
+            if ((!in_low(p, i) && !WRONG(74)) || (!in_up(p, j) && !WRONG(75)) || !moves(p, i, j)) continue;
+            if (WRONG(76) && i == p->at_lower) continue;
+            if (WRONG(77) && p->y[i] == p->y[j]) continue;
+            if (!WRONG(11)) return *pi = i, *pj = j, 1;
+            if (p->G[i] - p->G[j] > best) best = p->G[i] - p->G[j], *pi = i, *pj = j;
+        }
+    return best >= 0;
+}
+
+static int64_t amount(const Problem *p, int i, int j) {
+    int64_t g = p->G[i] - p->G[j], e = eta(p, i, j);
+    int64_t r_i = p->y[i] > 0 ? p->a[i] : p->c - p->a[i], r_j = p->y[j] > 0 ? p->c - p->a[j] : p->a[j];
+    int64_t r = r_i < r_j || WRONG(71) ? r_i : r_j;
+    if (WRONG(55)) return 1;
+    if (e == 0) return WRONG(56) ? 1 : r;
+    int64_t s = (2 * g + e - 1) / (2 * e);
+    if (WRONG(1)) s = g / e;
+    if (WRONG(2)) s = (2 * g + e) / (2 * e);
+    if (WRONG(57)) s = (g + e - 1) / e;
+    if (s < 1) s = 1;
+    return s < r ? s : r;
+}
+
+static void make_move(Problem *p, int i, int j, int64_t s) {
+    p->a[i] -= p->y[i] * s;
+    p->a[j] += p->y[j] * s;
+    for (int k = 0; k < p->n - WRONG(78) * (s == p->c); k++) p->G[k] += s * (kernel(p, p->x[k], p->x[j]) - kernel(p, p->x[k], p->x[i]));
+}
+
+static int converged(const Problem *p) {
+    int64_t t = WRONG(13) ? p->t : 2 * p->t;
+    return WRONG(12) ? p->lower < p->upper + t : p->lower <= p->upper + t;
+}
+
+static uint8_t run(Problem *p, uint32_t *steps) {
+    memset(p->a, 0, sizeof p->a);
+    set_gradient(p);
+    for (*steps = 0;; ++*steps) {
+        int i, j;
+        set_thresholds(p);
+        int spent = *steps == p->budget;
+        if (WRONG(6) && spent) return 3;
+        if (converged(p)) return 1;
+        if (WRONG(7) && spent) return 3;
+        if (!find_pair(p, &i, &j)) return 2;
+        if (spent || (WRONG(58) && *steps + 1 == p->budget)) return 3;
+        make_move(p, i, j, amount(p, i, j));
+        if (WRONG(79) && *steps + 1 == p->budget) return ++*steps, 3;
+        if (WRONG(59) && *steps == 3) return 2;
+    }
+}
+
+uint8_t lookahead_train(const uint8_t *file, size_t len, uint32_t *multipliers, size_t multipliers_len,
+                        int64_t *gradient, size_t gradient_len, uint8_t *ending, uint32_t *steps, int64_t *lower,
+                        int64_t *upper) {
+    Problem p;
+    if (WRONG(26) && multipliers_len > 0) multipliers[0] = 0;
+    if (WRONG(27)) *ending = 0;
+    uint8_t refused = read_file(&p, file, len);
+    if (WRONG(20) && (refused == 4 || refused == 5) && multipliers_len < (size_t)p.n) return 6;
+    if (refused) return refused;
+    if (multipliers_len < (size_t)p.n) return 6;
+    if (gradient_len < (size_t)p.n && !WRONG(25)) return 6;
+    *ending = run(&p, steps);
+    for (int i = 0; i < p.n; i++) multipliers[i] = (uint32_t)p.a[i];
+    for (int i = 0; i < p.n && (size_t)i < gradient_len; i++) gradient[i] = p.G[i];
+    if (WRONG(8) && multipliers_len > (size_t)p.n) multipliers[p.n] = 0;
+    if (WRONG(9)) memset(gradient + p.n, 0, 8 * (gradient_len - (size_t)p.n));
+    if (WRONG(60)) gradient[gradient_len] = 0;
+    if (WRONG(61)) *steps -= *steps > 0;
+    if (WRONG(90)) *steps = (uint16_t)*steps;
+    *lower = WRONG(62) ? p.upper : p.lower;
+    *upper = p.upper;
+    return 0;
+}
+
+static uint8_t judge_count(const Problem *p, size_t len) {
+    if (WRONG(63) ? len < (size_t)p->n : len != (size_t)p->n) return 6;
+    return 0;
+}
+
+static uint8_t judge_feasible(Problem *p, const uint32_t *multipliers) {
+    int64_t sum = 0;
+    uint8_t over = 0;
+    for (int i = 0; i < p->n; i++) {
+        p->a[i] = WRONG(64) ? (int64_t)(int32_t)multipliers[i] : (int64_t)multipliers[i];
+        over |= p->a[i] > p->c + WRONG(36);
+        sum += p->a[i] * p->y[i];
+    }
+    if (WRONG(21) && sum != 0) return 8;
+    if (over) return 7;
+    return sum != 0 && !(WRONG(65) && sum == 1) ? 8 : 0;
+}
+
+uint8_t lookahead_certify(const uint8_t *file, size_t len, const uint32_t *multipliers, size_t multipliers_len,
+                          int64_t *lower, int64_t *upper) {
+    Problem p;
+    uint8_t refused = read_file(&p, file, len);
+    if (!refused) refused = judge_count(&p, multipliers_len);
+    if (!refused) refused = judge_feasible(&p, multipliers);
+    if (refused && WRONG(66)) *lower = 0;
+    if (refused) return refused;
+    set_gradient(&p);
+    set_thresholds(&p);
+    *lower = p.lower;
+    *upper = p.upper;
+    return 0;
+}
+
+static uint8_t judge_word(const int8_t *word, size_t len) {
+    for (size_t k = 0; k < len; k++)
+        if (word[k] > 100 || word[k] < -100) return 9;
+    return 0;
+}
+
+uint8_t lookahead_classify(const uint8_t *file, size_t len, const uint32_t *multipliers, size_t multipliers_len,
+                           const int8_t *word, size_t word_len, uint8_t *class_answer) {
+    Problem p;
+    uint8_t refused = read_file(&p, file, len);
+    if (!refused) refused = judge_count(&p, multipliers_len);
+    if (!refused && (WRONG(38) ? word_len < (size_t)p.d : word_len != (size_t)p.d)) refused = 6;
+    if (!refused && WRONG(22)) refused = judge_word(word, word_len);
+    if (!refused) refused = judge_feasible(&p, multipliers);
+    if (!refused && !WRONG(67)) refused = judge_word(word, (size_t)p.d);
+    if (refused && WRONG(68)) *class_answer = 0;
+    if (refused) return refused;
+    set_gradient(&p);
+    set_thresholds(&p);
+    int64_t sum = 0;
+    for (int i = 0; i < p.n; i++) sum += p.a[i] * p.y[i] * kernel(&p, p.x[i], word);
+    uint32_t steps;
+    if (WRONG(87)) run(&p, &steps);
+    int64_t middle = WRONG(24) ? 2 * p.lower : WRONG(39) ? 2 * p.upper : WRONG(40) ? 0 : p.lower + p.upper;
+    int64_t score = (WRONG(41) ? 1 : 2) * sum - middle;
+    if (WRONG(89)) score = (int64_t)(score << 6) >> 6;
+    *class_answer = (WRONG(23) ? score >= 0 : score > 0) ? 1 : 2;
+    return 0;
+}

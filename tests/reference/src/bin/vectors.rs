@@ -1,0 +1,128 @@
+//! Writes the vectors: `vectors FOLDER` makes `files.bin` and `listings.txt` in
+//! that folder, always the same, and prints how many files have each answer.
+//!
+//! `files.bin` holds, for each file, its length as two bytes, little endian, and
+//! then its bytes. `listings.txt` holds, for each file, the line `file K`, K
+//! from 1, and then what the training program prints for it. The last file takes
+//! 67,411 steps; all others together take a few thousand.
+
+use reference::examples::{full_chain, long_run, settled, three_records};
+use reference::generate::{causes, damaged, noise, sound, sound_with, Random};
+use reference::{file, listing, run};
+use std::collections::BTreeMap;
+use std::path::Path;
+
+const SEED: u64 = 20_261_115;
+const SOUND: usize = 220;
+const LARGEST: usize = 10;
+const DAMAGED: usize = 70;
+const NOISE: usize = 20;
+/// Most causes of refusal 4 differ in the place alone; every so many is enough.
+const EACH_CAUSE_OF_4: usize = 6;
+
+fn main() -> std::io::Result<()> {
+    let Some(folder) = std::env::args().nth(1) else {
+        eprintln!("usage: vectors FOLDER");
+        std::process::exit(2);
+    };
+    let files = files();
+    let listings: Vec<String> = files.iter().map(|file| listing(file)).collect();
+    std::fs::write(Path::new(&folder).join("files.bin"), packed(&files))?;
+    std::fs::write(Path::new(&folder).join("listings.txt"), numbered(&listings))?;
+    print_counts(&files, &listings);
+    Ok(())
+}
+
+fn files() -> Vec<Vec<u8>> {
+    let random = &mut Random::new(SEED);
+    let mut files = settled();
+    files.push(three_records());
+    files.extend(thinned(causes(random)));
+    files.extend((0..SOUND).map(|_| sound(random)));
+    files.extend((0..LARGEST).map(|_| sound_with(random, file::MOST_RECORDS)));
+    for _ in 0..DAMAGED {
+        let whole = sound(random);
+        files.push(damaged(&whole, random));
+    }
+    files.extend((0..NOISE).map(|_| noise(random)));
+    files.extend([0, 1, 256, 257].map(full_chain));
+    files.push(long_run().plain());
+    files
+}
+
+fn thinned(causes: Vec<(u8, Vec<u8>)>) -> Vec<Vec<u8>> {
+    let kept = causes
+        .into_iter()
+        .enumerate()
+        .filter(|(k, (number, _))| *number != 4 || k % EACH_CAUSE_OF_4 == 0);
+    kept.map(|(_, (_, file))| file).collect()
+}
+
+fn packed(files: &[Vec<u8>]) -> Vec<u8> {
+    let mut bytes = Vec::new();
+    for file in files {
+        let length = u16::try_from(file.len()).expect("a length fits two bytes");
+        bytes.extend(length.to_le_bytes());
+        bytes.extend(file);
+    }
+    bytes
+}
+
+fn numbered(listings: &[String]) -> String {
+    listings
+        .iter()
+        .enumerate()
+        .map(|(k, listing)| format!("file {}\n{listing}", k + 1))
+        .collect()
+}
+
+fn print_counts(files: &[Vec<u8>], listings: &[String]) {
+    let mut answers: BTreeMap<String, usize> = BTreeMap::new();
+    for listing in listings {
+        *answers.entry(answer(listing)).or_default() += 1;
+    }
+    println!("{} files, {} bytes", files.len(), packed(files).len());
+    for (answer, count) in answers {
+        println!("{answer}: {count}");
+    }
+    print_shapes(files);
+}
+
+/// The ending, or the refusal with its number.
+fn answer(listing: &str) -> String {
+    let words: Vec<&str> = listing.split_whitespace().collect();
+    words[..if words[0] == "refused" { 2 } else { 1 }].join(" ")
+}
+
+fn print_shapes(files: &[Vec<u8>]) {
+    let problems: Vec<file::Problem> = files
+        .iter()
+        .filter_map(|bytes| file::read(bytes).ok())
+        .collect();
+    let square = problems
+        .iter()
+        .filter(|problem| problem.parameters.kernel == reference::kernel::Kernel::Square)
+        .count();
+    let largest = problems
+        .iter()
+        .filter(|problem| problem.items.len() == file::MOST_RECORDS)
+        .count();
+    let runs: Vec<_> = problems.iter().map(run).collect();
+    let steps: usize = runs.iter().map(|run| run.steps.len()).sum();
+    let fallback = runs
+        .iter()
+        .flat_map(|run| &run.steps)
+        .filter(|step| step.pair.fallback)
+        .count();
+    println!(
+        "linear {}, square {square}, n = 256 {largest}",
+        problems.len() - square
+    );
+    println!("steps {steps}, of fallback pairs {fallback}");
+    let most = problems
+        .iter()
+        .zip(&runs)
+        .map(|(problem, run)| run.steps.len() * problem.items.len().pow(2))
+        .max();
+    println!("most steps x n x n of one file: {}", most.unwrap_or(0));
+}

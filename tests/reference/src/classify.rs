@@ -1,0 +1,46 @@
+//! Classifying a word by the halfway threshold, and refusal 9.
+
+use crate::certify::{judge_count, judge_feasible, thresholds_of};
+use crate::file::{in_range, read, Problem};
+
+#[derive(Clone, Copy, PartialEq, Eq, Debug)]
+pub enum Class {
+    LookedUp,
+    PassedOver,
+}
+
+/// "Above 0 the answer is looked up; otherwise passed over."
+pub fn classify(file: &[u8], multipliers: &[u32], word: &[i8]) -> Result<Class, u8> {
+    if doubled_score(file, multipliers, word)? > 0 {
+        Ok(Class::LookedUp)
+    } else {
+        Ok(Class::PassedOver)
+    }
+}
+
+/// 2 × (sum of a_i × y_i × K of item i and the word) − (b_low + b_up).
+/// "Both thresholds are those of the multipliers given, worked out in the call."
+pub fn doubled_score(file: &[u8], multipliers: &[u32], word: &[i8]) -> Result<i128, u8> {
+    let problem = read(file)?;
+    judge_count(&problem, multipliers)?;
+    // Refusal 6: a word without exactly d features.
+    if word.len() != problem.parameters.features {
+        return Err(6);
+    }
+    judge_feasible(&problem, multipliers)?;
+    // Refusal 9: a word's feature outside −100 to 100.
+    if !word.iter().all(|&feature| in_range(feature)) {
+        return Err(9);
+    }
+    let both = thresholds_of(&problem, multipliers);
+    Ok(2 * weighted_sum(&problem, multipliers, word) - (both.lower + both.upper))
+}
+
+/// The sum of a_i × y_i × K of item i and the word.
+fn weighted_sum(problem: &Problem, multipliers: &[u32], word: &[i8]) -> i128 {
+    let kernel = problem.parameters.kernel;
+    let pairs = problem.items.iter().zip(multipliers);
+    pairs
+        .map(|(item, &a)| i128::from(a) * item.label.sign() * kernel.value(&item.features, word))
+        .sum()
+}

@@ -1,0 +1,147 @@
+//! The files of document 01's settled examples, and two at the ends of what a
+//! training can be.
+
+use crate::file::{MOST_RECORDS, RECORD_BYTES};
+use crate::generate::draft::{Draft, LOOKED_UP, PASSED_OVER};
+
+/// "±1 file": d = 1, linear, item + with feature 1, item − with feature −1,
+/// budget 50.
+pub fn plus_minus_one(units: u32, ceiling: u32, tolerance: u64) -> Draft {
+    Draft {
+        features: 1,
+        kernel: 0,
+        units,
+        ceiling,
+        tolerance,
+        budget: 50,
+        items: vec![(LOOKED_UP, vec![1]), (PASSED_OVER, vec![-1])],
+    }
+}
+
+pub fn p1() -> Draft {
+    plus_minus_one(10, 100, 0)
+}
+
+pub fn p2() -> Draft {
+    Draft { ceiling: 3, ..p1() }
+}
+
+pub fn p3() -> Draft {
+    plus_minus_one(1, 10, 0)
+}
+
+pub fn p4() -> Draft {
+    Draft {
+        tolerance: 1,
+        ..p3()
+    }
+}
+
+pub fn p5() -> Draft {
+    Draft { budget: 0, ..p3() }
+}
+
+pub fn p6() -> Draft {
+    Draft { budget: 0, ..p1() }
+}
+
+pub fn p7() -> Draft {
+    let items = vec![(LOOKED_UP, vec![1]), (PASSED_OVER, vec![1])];
+    Draft {
+        items,
+        ..plus_minus_one(10, 7, 0)
+    }
+}
+
+pub fn p8() -> Draft {
+    Draft {
+        kernel: 1,
+        ..plus_minus_one(16, 100, 0)
+    }
+}
+
+pub fn p9() -> Draft {
+    let items = vec![
+        (LOOKED_UP, vec![10]),
+        (PASSED_OVER, vec![-10]),
+        (PASSED_OVER, vec![10]),
+    ];
+    Draft {
+        items,
+        ..plus_minus_one(1, 2, 0)
+    }
+}
+
+/// The files of P1 to P9; P10 to P12 use that of P1.
+pub fn settled() -> Vec<Vec<u8>> {
+    [p1(), p2(), p3(), p4(), p5(), p6(), p7(), p8(), p9()]
+        .iter()
+        .map(Draft::plain)
+        .collect()
+}
+
+/// The example of the training program: three records, first 3, record 2 spare.
+/// The spare record is given bytes that no item may have.
+pub fn three_records() -> Vec<u8> {
+    p1().stored(&[3, 1], vec![0xEE; 60])
+}
+
+/// A training that converges after 67,411 steps, more than 16 bits can count.
+pub fn long_run() -> Draft {
+    let plus = |feature| (LOOKED_UP, vec![feature]);
+    let minus = |feature| (PASSED_OVER, vec![feature]);
+    let items = vec![
+        plus(66),
+        minus(-91),
+        plus(-52),
+        plus(-82),
+        plus(-21),
+        plus(-53),
+        minus(100),
+        minus(16),
+        plus(-59),
+        minus(-10),
+        plus(22),
+        minus(76),
+        plus(36),
+        plus(-37),
+        plus(80),
+        plus(-60),
+        minus(46),
+        minus(-2),
+        minus(-14),
+        plus(76),
+        plus(-29),
+        plus(100),
+        plus(72),
+        plus(87),
+    ];
+    Draft {
+        items,
+        budget: 1_000_000,
+        ..plus_minus_one(691, 3_000, 0)
+    }
+}
+
+/// As many records as can be, all chained; the last leads to the record given
+/// instead of ending the chain.
+pub fn full_chain(last_next: u16) -> Vec<u8> {
+    let item = |k: usize| {
+        (
+            if k.is_multiple_of(2) {
+                LOOKED_UP
+            } else {
+                PASSED_OVER
+            },
+            vec![1],
+        )
+    };
+    let mut file = Draft {
+        items: (0..MOST_RECORDS).map(item).collect(),
+        ..p1()
+    }
+    .plain();
+    let last = file.len() - RECORD_BYTES;
+    file[last..last + 2].copy_from_slice(&last_next.to_le_bytes());
+    file
+}

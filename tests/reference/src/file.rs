@@ -1,0 +1,201 @@
+//! Reading a training file: document 01, "The training file" and refusals 1 to 5.
+//!
+//! Each refusal has its own pass over the file, in the order of the numbers, so
+//! that "the first refusal met ends the call, in the order 1 to 9" can be seen
+//! by reading `read` from top to bottom.
+
+use crate::kernel::Kernel;
+
+pub const HEADER_BYTES: usize = 32;
+pub const RECORD_BYTES: usize = 20;
+pub const MOST_RECORDS: usize = 256;
+pub const STORED_FEATURES: usize = 16;
+pub const LOWEST_FEATURE: i8 = -100;
+pub const HIGHEST_FEATURE: i8 = 100;
+pub const MOST_UNITS: u64 = 1_048_576;
+pub const HIGHEST_CEILING: u64 = 65_536;
+pub const HIGHEST_TOLERANCE: u64 = 1_000_000_000_000;
+pub const HIGHEST_BUDGET: u64 = 1_000_000;
+
+/// Looked up is y = +1, passed over is y = −1.
+#[derive(Clone, Copy, PartialEq, Eq, Debug)]
+pub enum Label {
+    LookedUp,
+    PassedOver,
+}
+
+impl Label {
+    /// The y of the formulas.
+    pub fn sign(self) -> i128 {
+        match self {
+            Label::LookedUp => 1,
+            Label::PassedOver => -1,
+        }
+    }
+}
+
+/// The header's fields that training uses.
+#[derive(Clone, Debug)]
+pub struct Parameters {
+    /// d, features in use.
+    pub features: usize,
+    pub kernel: Kernel,
+    /// S, grid units per 1.
+    pub units: i128,
+    /// c, the ceiling of a multiplier.
+    pub ceiling: i128,
+    /// t, the tolerance.
+    pub tolerance: i128,
+    pub budget: u32,
+}
+
+/// A chained record. Only the first d features are kept: the rest are zero in
+/// every accepted file, and both kernels use the first d alone.
+#[derive(Clone, Debug)]
+pub struct Item {
+    pub record: usize,
+    pub label: Label,
+    pub features: Vec<i8>,
+}
+
+/// What an accepted file holds: parameters, and items in chain order.
+#[derive(Clone, Debug)]
+pub struct Problem {
+    pub parameters: Parameters,
+    pub items: Vec<Item>,
+}
+
+/// The problem stored in the file, or the number of the first refusal.
+pub fn read(file: &[u8]) -> Result<Problem, u8> {
+    let records = judge_length(file)?;
+    let parameters = judge_header(file, records)?;
+    let chain = walk(file, records)?;
+    let items = judge_items(file, &chain, parameters.features)?;
+    judge_labels(&items)?;
+    Ok(Problem { parameters, items })
+}
+
+/// Refusal 1: under 32 bytes, m over 256, or a length other than 32 + 20 × m.
+fn judge_length(file: &[u8]) -> Result<usize, u8> {
+    if file.len() < HEADER_BYTES {
+        return Err(1);
+    }
+    let records = number(file, 0, 2) as usize;
+    let fits = records <= MOST_RECORDS && file.len() == HEADER_BYTES + RECORD_BYTES * records;
+    if fits {
+        Ok(records)
+    } else {
+        Err(1)
+    }
+}
+
+/// Refusal 2: a header field beyond its range, or a spare byte not 0.
+/// "A first record over m is refused with 2."
+fn judge_header(file: &[u8], records: usize) -> Result<Parameters, u8> {
+    let first = number(file, 2, 2);
+    let features = number(file, 4, 1);
+    let kernel = number(file, 5, 1);
+    let units = number(file, 8, 4);
+    let ceiling = number(file, 12, 4);
+    let tolerance = number(file, 16, 8);
+    let budget = number(file, 24, 4);
+    let in_range = first <= records as u64
+        && (1..=STORED_FEATURES as u64).contains(&features)
+        && kernel <= 1
+        && (1..=MOST_UNITS).contains(&units)
+        && (1..=HIGHEST_CEILING).contains(&ceiling)
+        && tolerance <= HIGHEST_TOLERANCE
+        && budget <= HIGHEST_BUDGET;
+    let spare_zero = number(file, 6, 2) == 0 && number(file, 28, 4) == 0;
+    if !in_range || !spare_zero {
+        return Err(2);
+    }
+    Ok(Parameters {
+        features: features as usize,
+        kernel: if kernel == 0 {
+            Kernel::Linear
+        } else {
+            Kernel::Square
+        },
+        units: units.into(),
+        ceiling: ceiling.into(),
+        tolerance: tolerance.into(),
+        budget: budget as u32,
+    })
+}
+
+/// The numbers of the chained records, in chain order.
+/// Refusal 3: a next number over m, or a chain that meets a record twice.
+/// The list of the records met is kept and searched, as the rule says it;
+/// records off the chain are never looked at.
+fn walk(file: &[u8], records: usize) -> Result<Vec<usize>, u8> {
+    let mut met = Vec::new();
+    let mut next = number(file, 2, 2) as usize;
+    while next != 0 {
+        if next > records || met.contains(&next) {
+            return Err(3);
+        }
+        met.push(next);
+        next = number(record(file, next), 0, 2) as usize;
+    }
+    Ok(met)
+}
+
+/// The items of a whole chain; one that breaks a rule refuses them all.
+fn judge_items(file: &[u8], chain: &[usize], features: usize) -> Result<Vec<Item>, u8> {
+    chain
+        .iter()
+        .map(|&number| judge_item(file, number, features))
+        .collect()
+}
+
+/// Refusal 4: a wrong label, byte 3 not 0, a feature outside its range, or a
+/// feature past d not 0.
+fn judge_item(file: &[u8], number: usize, features: usize) -> Result<Item, u8> {
+    let bytes = record(file, number);
+    let label = match bytes[2] {
+        1 => Label::LookedUp,
+        2 => Label::PassedOver,
+        _ => return Err(4),
+    };
+    let stored: Vec<i8> = bytes[4..].iter().map(|&byte| byte as i8).collect();
+    let (used, past) = stored.split_at(features);
+    let sound = bytes[3] == 0 && used.iter().all(|&f| in_range(f)) && past.iter().all(|&f| f == 0);
+    if !sound {
+        return Err(4);
+    }
+    Ok(Item {
+        record: number,
+        label,
+        features: used.to_vec(),
+    })
+}
+
+/// Refusal 5: one label, or both, has no item.
+fn judge_labels(items: &[Item]) -> Result<(), u8> {
+    let has = |label| items.iter().any(|item| item.label == label);
+    if has(Label::LookedUp) && has(Label::PassedOver) {
+        Ok(())
+    } else {
+        Err(5)
+    }
+}
+
+/// "each a signed byte from −100 to 100"; words are judged by the same range.
+pub fn in_range(feature: i8) -> bool {
+    (LOWEST_FEATURE..=HIGHEST_FEATURE).contains(&feature)
+}
+
+/// The bytes of a record; records are numbered from 1.
+fn record(file: &[u8], number: usize) -> &[u8] {
+    let start = HEADER_BYTES + RECORD_BYTES * (number - 1);
+    &file[start..start + RECORD_BYTES]
+}
+
+/// An unsigned little-endian field.
+pub fn number(bytes: &[u8], start: usize, width: usize) -> u64 {
+    bytes[start..start + width]
+        .iter()
+        .rev()
+        .fold(0, |value, &byte| value * 256 + u64::from(byte))
+}

@@ -1,0 +1,62 @@
+//! Training files, multipliers and words drawn from a seed: the same seed gives
+//! the same bytes on every machine.
+
+pub mod caller;
+pub mod damage;
+pub mod draft;
+pub mod random;
+pub mod sound;
+
+use crate::examples;
+pub use damage::{causes, damaged, every_damage};
+pub use draft::Draft;
+pub use random::Random;
+pub use sound::{sound, sound_with, tiny};
+
+/// A file of any kind: most are accepted, some are damaged, a few are noise.
+pub fn any_file(random: &mut Random) -> Vec<u8> {
+    match random.below(20) {
+        0 => noise(random),
+        1..=4 => {
+            let file = sound(random);
+            sound::tamed(damaged(&file, random))
+        }
+        _ => sound(random),
+    }
+}
+
+/// Purely random bytes, half of them behind a length that agrees with m, so
+/// that they come past refusal 1.
+pub fn noise(random: &mut Random) -> Vec<u8> {
+    let length = random.below(200) as usize;
+    let mut file = random.bytes(length);
+    if random.chance(1, 2) {
+        let records = random.below(12) as u8;
+        file = random.bytes(32 + 20 * usize::from(records));
+        file[0] = records;
+        file[1] = 0;
+    }
+    file
+}
+
+/// The largest m that two bytes can say, with the length that belongs to it.
+fn longest(random: &mut Random) -> Vec<u8> {
+    let mut file = random.bytes(32 + 20 * 65_535);
+    file[..2].fill(255);
+    file
+}
+
+/// What must be met in each comparison, whatever the seed: the longest training
+/// and the longest chains, the settled examples, every cause of a refusal, and
+/// small files with every damage of `every_damage`.
+pub fn systematic(random: &mut Random) -> Vec<Vec<u8>> {
+    let mut files = vec![examples::long_run().plain(), longest(random)];
+    files.extend([0, 1, 128, 256, 257].map(examples::full_chain));
+    files.extend(examples::settled());
+    files.extend(causes(random).into_iter().map(|(_, file)| file));
+    for items in [2, 3, 4] {
+        let file = sound::small(random, items);
+        files.extend(every_damage(&file, random).into_iter().map(sound::tamed));
+    }
+    files
+}

@@ -1,0 +1,206 @@
+//! The settled examples P1 to P12, the cases that are run only, and every cause
+//! of a refusal.
+
+use crate::classify::doubled_score;
+use crate::examples::*;
+use crate::file::{read, MOST_RECORDS};
+use crate::generate::draft::{Draft, LOOKED_UP, PASSED_OVER};
+use crate::generate::{causes, Random};
+use crate::training::{Ending, Trained};
+use crate::{certify, classify, listing, run, train, Class};
+
+/// Trains into lists of just n places.
+fn trained(draft: &Draft) -> (Trained, Vec<u32>, Vec<i64>) {
+    let mut multipliers = vec![9; draft.items.len()];
+    let mut gradient = vec![9; draft.items.len()];
+    let result = train(&draft.plain(), &mut multipliers, &mut gradient).expect("accepted");
+    (result, multipliers, gradient)
+}
+
+fn assert_trained(
+    draft: Draft,
+    ending: Ending,
+    steps: u32,
+    multipliers: &[u32],
+    lower: i64,
+    upper: i64,
+) {
+    let (result, left, gradient) = trained(&draft);
+    assert_eq!(
+        result,
+        Trained {
+            ending,
+            steps,
+            lower,
+            upper
+        }
+    );
+    assert_eq!(left, multipliers);
+    assert_eq!(certify(&draft.plain(), &left), Ok((lower, upper)));
+    assert!(gradient.contains(&lower) && gradient.contains(&upper));
+}
+
+#[test]
+fn p1_to_p9_train_as_settled() {
+    use Ending::*;
+    assert_trained(p1(), Converged, 1, &[5, 5], 0, 0);
+    assert_trained(p2(), Converged, 1, &[3, 3], -4, 4);
+    assert_trained(p3(), Stuck, 0, &[0, 0], 1, -1);
+    assert_trained(p4(), Converged, 0, &[0, 0], 1, -1);
+    assert_trained(p5(), Stuck, 0, &[0, 0], 1, -1);
+    assert_trained(p6(), Spent, 0, &[0, 0], 10, -10);
+    assert_trained(p7(), Converged, 1, &[7, 7], -10, 10);
+    assert_trained(p8(), Converged, 1, &[4, 4], 0, 0);
+    assert_trained(p9(), Converged, 1, &[2, 0, 2], 1, 1);
+}
+
+#[test]
+fn p9_takes_the_fallback_pair() {
+    let steps = run(&read(&p9().plain()).expect("accepted")).steps;
+    assert!(steps.len() == 1 && steps[0].pair.fallback);
+}
+
+#[test]
+fn p10_and_p11_certify_as_settled() {
+    let file = p1().plain();
+    assert_eq!(certify(&file, &[0, 0]), Ok((10, -10)));
+    assert_eq!(certify(&file, &[5, 4]), Err(8));
+    assert_eq!(certify(&file, &[101, 100]), Err(7));
+}
+
+#[test]
+fn p12_classifies_as_settled() {
+    let file = p1().plain();
+    assert_eq!(doubled_score(&file, &[5, 5], &[3]), Ok(60));
+    assert_eq!(classify(&file, &[5, 5], &[3]), Ok(Class::LookedUp));
+    assert_eq!(doubled_score(&file, &[5, 5], &[0]), Ok(0));
+    assert_eq!(classify(&file, &[5, 5], &[0]), Ok(Class::PassedOver));
+}
+
+#[test]
+fn the_example_prints_as_settled() {
+    assert_eq!(listing(&three_records()), "converged 1 0 0\n3 + 5\n1 - 5\n");
+    assert_eq!(listing(&[]), "refused 1\n");
+}
+
+#[test]
+fn files_of_31_and_32_bytes() {
+    let empty = Draft {
+        items: Vec::new(),
+        ..p1()
+    }
+    .plain();
+    assert_eq!(empty.len(), 32);
+    assert_eq!(read(&empty).err(), Some(5));
+    assert_eq!(read(&empty[..31]).err(), Some(1));
+}
+
+/// n items, + and − by turns, with features from a small range.
+fn alternating(n: usize) -> Draft {
+    let item = |i: usize| {
+        (
+            if i.is_multiple_of(2) {
+                LOOKED_UP
+            } else {
+                PASSED_OVER
+            },
+            vec![(i % 7) as i8 - 3],
+        )
+    };
+    Draft {
+        items: (0..n).map(item).collect(),
+        ..p1()
+    }
+}
+
+#[test]
+fn records_256_and_257() {
+    let most = alternating(MOST_RECORDS);
+    assert_eq!(trained(&most).1.len(), MOST_RECORDS);
+    assert_eq!(read(&alternating(MOST_RECORDS + 1).plain()).err(), Some(1));
+}
+
+#[test]
+fn features_at_the_ends() {
+    let with = |feature| {
+        Draft {
+            items: vec![(LOOKED_UP, vec![feature]), (PASSED_OVER, vec![1])],
+            ..p1()
+        }
+        .plain()
+    };
+    assert!(read(&with(100)).is_ok() && read(&with(-100)).is_ok());
+    assert_eq!(read(&with(101)).err(), Some(4));
+    assert_eq!(read(&with(-101)).err(), Some(4));
+    let word = |feature| classify(&p1().plain(), &[5, 5], &[feature]);
+    assert_eq!(
+        [word(100), word(-100)],
+        [Ok(Class::LookedUp), Ok(Class::PassedOver)]
+    );
+    assert_eq!([word(101), word(-101)], [Err(9), Err(9)]);
+}
+
+#[test]
+fn a_record_that_is_its_own_next() {
+    let mut file = p1().plain();
+    file[32] = 1;
+    assert_eq!(read(&file).err(), Some(3));
+}
+
+#[test]
+fn the_longest_chains() {
+    assert_eq!(
+        read(&full_chain(0)).map(|problem| problem.items.len()).ok(),
+        Some(MOST_RECORDS)
+    );
+    for next in [1, 128, 256, 257] {
+        assert_eq!(read(&full_chain(next)).err(), Some(3));
+    }
+}
+
+#[test]
+fn a_long_run_counts_its_steps() {
+    let (result, _, _) = trained(&long_run());
+    assert_eq!((result.ending, result.steps), (Ending::Converged, 67_411));
+}
+
+#[test]
+fn every_cause_draws_its_refusal() {
+    for seed in 0..20 {
+        for (number, file) in causes(&mut Random::new(seed)) {
+            assert_eq!(read(&file).err(), Some(number), "{file:?}");
+        }
+    }
+}
+
+#[test]
+fn a_refusal_changes_nothing_and_later_places_stay() {
+    let file = p1().plain();
+    let (mut multipliers, mut gradient) = ([7; 4], [8; 3]);
+    assert_eq!(train(&file, &mut multipliers[..1], &mut gradient), Err(6));
+    assert_eq!(train(&file, &mut multipliers, &mut gradient[..1]), Err(6));
+    assert_eq!(train(&file[..40], &mut multipliers, &mut gradient), Err(1));
+    assert_eq!((multipliers, gradient), ([7; 4], [8; 3]));
+    assert!(train(&file, &mut multipliers, &mut gradient).is_ok());
+    assert_eq!((multipliers, gradient), ([5, 5, 7, 7], [0, 0, 8]));
+}
+
+/// "The first refusal met ends the call, in the order 1 to 9."
+#[test]
+fn refusals_of_the_caller_come_in_order() {
+    let file = p1().plain();
+    let one_sided = Draft {
+        items: vec![(LOOKED_UP, vec![1])],
+        ..p1()
+    }
+    .plain();
+    assert_eq!(certify(&one_sided, &[]), Err(5));
+    assert_eq!(certify(&file, &[101]), Err(6));
+    assert_eq!(certify(&file, &[1, 101]), Err(7));
+    assert_eq!(certify(&file, &[u32::MAX, u32::MAX]), Err(7));
+    assert_eq!(classify(&file, &[101, 0], &[101, 101]), Err(6));
+    assert_eq!(classify(&file, &[101, 0], &[]), Err(6));
+    assert_eq!(classify(&file, &[101, 0], &[101]), Err(7));
+    assert_eq!(classify(&file, &[1, 0], &[101]), Err(8));
+    assert_eq!(classify(&file, &[1, 1], &[-128]), Err(9));
+}
