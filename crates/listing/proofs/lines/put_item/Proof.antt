@@ -1,0 +1,40 @@
+-- `listing::lines::put_item` meets its contract. Assumes nothing.
+use Rattle.listing.specs.Listing.{itemLine}
+use Rattle.listing.specs.Put.Laws.{put-then, room-first, room-then}
+use borrow.Author.Needs.{needs}
+use Rattle.listing.proofs.lines.put_item.Statement.{statement}
+use Rattle.listing.proofs.lines.put_item.Tie as tie
+
+put-number-requires : tie.Need-put-number-requires
+unfolding itemLine
+put-number-requires c κs = room-first _ _ (c .before .before .pre)
+
+put-label-requires : tie.Need-put-label-requires
+unfolding itemLine
+put-label-requires c κs = room-first _ _ (room-then (c .before .before .before .put-number .ensures) (c .before .before .before .before .before .before .pre))
+
+put-number-requires-2 : tie.Need-put-number-requires-2
+unfolding itemLine
+put-number-requires-2 c κs = room-first _ _ (room-then (c .before .before .before .put-label .ensures) (room-then (c .before .before .before .before .before .before .before .put-number .ensures) (c .before .before .before .before .before .before .before .before .before .before .pre)))
+
+put-byte-requires : tie.Need-put-byte-requires
+unfolding itemLine
+put-byte-requires c κs = room-then (c .before .before .before .put-number2 .ensures) (room-then (c .before .before .before .before .before .before .before .put-label .ensures) (room-then (c .before .before .before .before .before .before .before .before .before .before .before .put-number .ensures) (c .before .before .before .before .before .before .before .before .before .before .before .before .before .before .pre)))
+
+same-length : tie.Need-same-length
+same-length c = search needs
+
+returns : tie.Need-returns
+unfolding itemLine
+returns c = put-then (c .before .before .before .before .before .before .before .before .before .before .before .before .before .before .put-number .ensures) (put-then (c .before .before .before .before .before .before .before .before .before .before .put-label .ensures) (put-then (c .before .before .before .before .before .before .put-number2 .ensures) (c .before .before .put-byte .ensures)))
+
+pub put-item-spec : {M : Type 1} → statement M
+put-item-spec =
+    tie.close
+    (tie.spec
+    put-number-requires
+    put-label-requires
+    put-number-requires-2
+    put-byte-requires
+    same-length
+    returns)

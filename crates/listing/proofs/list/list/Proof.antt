@@ -1,0 +1,58 @@
+-- `listing::list::list` meets its contract. Assumes nothing.
+use mathlib.Core.Path.{_≡_, sym, _∙_}
+use native.Mathlib.Omega.{arith}
+use Rattle.training_file.specs.Reading.{reading}
+use Rattle.training_file.specs.Calls.{itemsIn, orderIn}
+use Rattle.dual_problem.specs.Items.{at}
+use Rattle.listing.specs.Listing.{listing, listingIn, listingOf}
+use Rattle.listing.specs.Listing.Laws.{items-few, listing-fits, listing-trained}
+use Rattle.listing.specs.Put.Laws.{put-all, put-as, room-as}
+use borrow.Author.Needs.{needs}
+use Rattle.listing.proofs.list.list.Statement.{statement}
+use Rattle.listing.proofs.list.list.Tie as tie
+
+slice-aggregate-train : tie.Need-slice-aggregate-train
+slice-aggregate-train c = search needs
+
+slice-aggregate-train-2 : tie.Need-slice-aggregate-train-2
+slice-aggregate-train-2 c = search needs
+
+train-requires : tie.Need-train-requires
+train-requires c κs = search needs
+
+slice-aggregate-put-training : tie.Need-slice-aggregate-put-training
+slice-aggregate-put-training c = search needs
+
+-- the text is that of training's own answer and multipliers
+text-is : (c : tie.After-train) → listingIn (c .train .result) (c .before .before .before .before .before .args .file .now) (c .train .last .1 .0) ≡ listingOf (reading (c .before .before .before .before .before .args .file .now))
+text-is c =
+    let r = reading (c .before .before .before .before .before .args .file .now) in
+    (λ k. listing (c .train .ensures .0 k) (orderIn r) (itemsIn r) (at (c .train .ensures .1 .0 .0 k))) ∙ listing-trained r _ _ (items-few _) (items-few _)
+
+put-training-requires : tie.Need-put-training-requires
+put-training-requires c κs =
+    let s = c .before .before .before .before .before .before .before .before .before in
+    let f = s .args .file .now in (
+      omega (arith, items-few f, c .before .before .before .before .train .kept .1 .0),
+      room-as (sym (text-is (c .before .before .before .before))) (record { fits = omega (arith, listing-fits f, s .pre) }),
+    )
+
+same-length : tie.Need-same-length
+same-length c = search needs
+
+returns : tie.Need-returns
+returns c =
+    let s = c .before .before .before .before .before .before .before .before .before .before .before .before in
+    put-all (omega (arith, listing-fits (s .args .file .now), s .pre)) (put-as (text-is (c .before .before .before .before .before .before .before)) (c .before .before .put-training .ensures))
+
+pub list-spec : {M : Type 1} → statement M
+list-spec =
+    tie.close
+    (tie.spec
+    slice-aggregate-train
+    slice-aggregate-train-2
+    train-requires
+    slice-aggregate-put-training
+    put-training-requires
+    same-length
+    returns)

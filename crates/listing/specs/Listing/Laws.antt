@@ -1,0 +1,124 @@
+-- Laws of the listing. Assumes nothing.
+use mathlib.Core.Bool.{true, cond, _&&_}
+use mathlib.Core.Path.{_≡_, refl, sym, _∙_, ap}
+use mathlib.Core.List.{List, [], _∷_, _++_}
+use mathlib.Core.Logic.{⊎-elim}
+use Prim.Native.Nat.{ℕ, zero, suc, _*_, _≤_, _<_}
+use native.Mathlib.Nat.{le-refl, le-of-suc-le-suc, eq-or-lt-of-le}
+use native.Mathlib.Omega.{arith}
+use borrow.Author.Tests.{le-leb}
+use lib.Dec.{leb}
+use lib.IntN.{ℤ, pos}
+use lib.ListN.{length, getD, length-append}
+use Rattle.integers.specs.Test.{&&-true}
+use Rattle.integers.specs.Written.{written}
+use Rattle.integers.specs.Written.Laws.{written-at}
+use Rattle.training_file.specs.declared.item.Label.{Label}
+use Rattle.training_file.specs.Reading.{Reading, refused, accepted, reading}
+use Rattle.training_file.specs.ReadingLaws.{accepted-is}
+use Rattle.training_file.specs.Calls.{itemIn, itemsIn, orderIn, outcomeOf, tableAfter}
+use Rattle.training_file.specs.AcceptedLaws.{accepted-ranges, items-counted, items-most, numbers-within}
+use Rattle.dual_problem.specs.Problem.{problem}
+use Rattle.dual_problem.specs.Problem.Laws.{problem-gram}
+use Rattle.dual_problem.specs.Items.{Listed, at}
+use Rattle.dual_problem.specs.Items.Read.{Read, read-listed}
+use Rattle.smo.specs.declared.ending.Ending.{Ending}
+use Rattle.smo.specs.declared.ending.Ending.the-variants.{Converged, Stuck, Spent}
+use Rattle.smo.specs.declared.run.Trained.{Trained}
+use Rattle.smo.specs.Run.{training}
+use Rattle.smo.specs.Run.Laws.{training-sound}
+use Rattle.smo.specs.Answer.{trainedOf}
+use Rattle.smo.specs.Train.{endedWith, refusedWith, trainRead}
+use Rattle.listing.specs.Decimal.{decimal}
+use Rattle.listing.specs.Decimal.Laws.{decimal-few, decimal-length, signed-length}
+use Rattle.listing.specs.Listing.{endingText, itemCount, itemLine, joined, labelSign, lineAt, listing, listingOf, resultLine}
+
+-- ---- texts one after the other
+pub joined-cong : (n : ℕ) (f g : ℕ → List ℕ) → ((i : ℕ) → i < n → f i ≡ g i) → joined n f ≡ joined n g
+unfolding joined
+joined-cong zero f g h = refl
+joined-cong (suc n) f g h = λ k. joined-cong n f g (λ i l. h i (omega arith)) k ++ h n (le-refl (suc n)) k
+
+pub joined-rises : (n m : ℕ) (f : ℕ → List ℕ) → n ≤ m → length (joined n f) ≤ length (joined m f)
+unfolding joined
+joined-rises n zero f h = let e : n ≡ 0 = omega arith in omega (arith, ap (λ k. length (joined k f)) e)
+joined-rises n (suc m) f h =
+    ⊎-elim (λ e. omega (arith, ap (λ k. length (joined k f)) e)) (λ l. omega (arith, joined-rises n m f (le-of-suc-le-suc l), length-append (joined m f) (f m)))
+    (eq-or-lt-of-le h)
+
+pub joined-length : (n : ℕ) (f : ℕ → List ℕ) {most : ℕ} → ((i : ℕ) → i < n → length (f i) ≤ most) → length (joined n f) ≤ n * most
+unfolding joined
+joined-length zero f h = omega arith
+joined-length (suc n) f {most} h = omega (arith, length-append (joined n f) (f n), joined-length n f (λ i l. h i (omega arith)), h n (le-refl (suc n)))
+
+-- ---- the table that the code reads serves, and its count is that of the items
+pub count-items : (file : List ℕ) → itemCount (outcomeOf (reading file)) ≡ length (itemsIn (reading file))
+count-items file = by (reading file) refl
+  where
+    by : (r : Reading) → reading file ≡ r → itemCount (outcomeOf r) ≡ length (itemsIn r)
+    by (refused number) e = refl
+    by (accepted p order items) e = sym (items-counted file p order items (accepted-is file p order items e))
+
+pub reading-listed : (file table : List ℕ) → length table ≡ 256 → Listed file (tableAfter (reading file) table) (length (itemsIn (reading file)))
+reading-listed file table long = by (reading file) refl
+  where
+    by : (r : Reading) → reading file ≡ r → Listed file (tableAfter (reading file) table) (length (itemsIn (reading file)))
+    by (refused number) e =
+        let none : length (itemsIn (reading file)) ≡ 0 = ap (λ x. length (itemsIn x)) e in
+        record { few = omega arith; counted = refl; tabled = λ i l. absurd (omega arith); sized = λ i l. absurd (omega arith) }
+    by (accepted p order items) e =
+        let r : Read file p (length (itemsIn (reading file))) = record { order = order; items = items; is = e; counted = ap (λ x. length (itemsIn x)) e } in
+        read-listed r table long
+
+pub items-few : (file : List ℕ) → length (itemsIn (reading file)) ≤ 256
+items-few file = by (reading file) refl
+  where
+    by : (r : Reading) → reading file ≡ r → length (itemsIn r) ≤ 256
+    by (refused number) e = omega arith
+    by (accepted p order items) e = items-most file p order items (accepted-is file p order items e)
+
+-- ---- what training answers and leaves prints as the listing
+pub listing-trained : (r : Reading) (a : List ℕ) (g : List ℤ) → length (itemsIn r) ≤ length a → length (itemsIn r) ≤ length g
+    → listing (trainRead r a g .answer) (orderIn r) (itemsIn r) (at (trainRead r a g .multipliers)) ≡ listingOf r
+unfolding listing listingOf
+listing-trained (refused number) a g h k = refl
+listing-trained (accepted p order items) a g h k =
+    let P = problem p items in
+    let o = training P (p .tolerance) (p .budget) in
+    let e : leb (length items) (length a) && leb (length items) (length g) ≡ true = &&-true (le-leb _ _ h) (le-leb _ _ k) in
+    (λ t. let left = cond (e t) (endedWith P o a g) (refusedWith 6 a g) in listing (left .answer) order items (at (left .multipliers)))
+    ∙ ap (λ lines. resultLine (trainedOf P o) ++ lines)
+    (joined-cong (length items) (lineAt order items (at (written (length items) (at (o .multipliers)) a))) (lineAt order items (at (o .multipliers)))
+    (λ i l. ap (itemLine (getD order i 0) (itemIn items i .label)) (written-at (length items) (at (o .multipliers)) a 0 h i l)))
+
+-- ---- no listing is longer than 4,096 bytes
+item-length : (number : ℕ) (label : Label) (multiplier : ℕ) → number < 100000 → multiplier < 100000 → length (itemLine number label multiplier) ≤ 14
+unfolding itemLine
+item-length number label multiplier h k =
+    omega (arith, length-append (decimal number) ((32 ∷ labelSign label ∷ 32 ∷ []) ++ (decimal multiplier ++ (10 ∷ []))), length-append (decimal multiplier) (10 ∷ []), decimal-few number h, decimal-few multiplier k)
+
+ending-length : (ending : Ending) → length (endingText ending) ≤ 9
+ending-length Converged = omega arith
+ending-length Stuck = omega arith
+ending-length Spent = omega arith
+
+result-length : (trained : Trained) → length (resultLine trained) ≤ 76
+unfolding resultLine
+result-length trained = simp length-append (omega (arith, ending-length (trained .ending), signed-length (pos (trained .steps)), signed-length (trained .lower), signed-length (trained .upper)))
+
+pub listing-fits : (file : List ℕ) → length (listingOf (reading file)) ≤ 4096
+unfolding listing listingOf
+listing-fits file = by (reading file) refl
+  where
+    by : (r : Reading) → reading file ≡ r → length (listingOf r) ≤ 4096
+    by (refused number) e = simp length-append (omega (arith, decimal-length number))
+    by (accepted p order items) e =
+        let a = accepted-is file p order items e in
+        let P = problem p items in
+        let o = training P (p .tolerance) (p .budget) in
+        let sound = training-sound P (problem-gram p items) (p .tolerance) (p .budget) (p .ceiling) (λ i l. le-refl (p .ceiling)) in
+        let line : (i : ℕ) → i < length items → length (lineAt order items (at (o .multipliers)) i) ≤ 14 =
+        λ i l. item-length (getD order i 0) (itemIn items i .label) (at (o .multipliers) i)
+        (omega (arith, numbers-within file p order items a i (omega (arith, items-counted file p order items a)) .1))
+        (omega (arith, sound .feasible .within i l, accepted-ranges file p order items a .ceiling-greatest)) in
+        omega (arith, length-append (resultLine (trainedOf P o)) (joined (length items) (lineAt order items (at (o .multipliers)))), result-length (trainedOf P o), joined-length (length items) (lineAt order items (at (o .multipliers))) line, items-most file p order items a)

@@ -1,0 +1,106 @@
+// The lines of the listing.
+
+ghost use mathlib.Core.List.{[], _∷_};
+ghost use Prim.Native.Nat.{_≤_};
+ghost use lib.ListN.{length};
+ghost use Rattle.dual_problem.specs.Items.{Listed};
+ghost use Rattle.listing.specs.Listing.{endingText, field, itemLine, joined, labelSign, lineIn, refusalLine, resultLine};
+ghost use Rattle.listing.specs.Put.{Put, Room};
+use super::number::put_number;
+use super::number::put_signed;
+use super::text::put_byte;
+use super::text::put_text;
+use smo::ending::Ending;
+use smo::run::Trained;
+use training_file::item::Label;
+use training_file::reader::fetch;
+use training_file::refusal::Refusal;
+
+// A refusal is the whole listing: its number alone.
+pub fn put_refusal(out: &mut [u8], at: usize, refusal: Refusal) -> usize
+    requires { ⌜ Room (refusalLine (refusal .number)) at (now out) ⌝ }
+    ensures { λ r. ⌜ Put (refusalLine (refusal .number)) at (now (out .entry)) (now (out .exit)) r ⌝ }
+{
+    let after_word = put_text(out, at, b"refused ");
+    let after_number = put_number(out, after_word, refusal.number as u64);
+    put_byte(out, after_number, b'\n')
+}
+
+// Why training ended, in lower case letters.
+fn put_ending(out: &mut [u8], at: usize, ending: Ending) -> usize
+    requires { ⌜ Room (endingText ending) at (now out) ⌝ }
+    ensures { λ r. ⌜ Put (endingText ending) at (now (out .entry)) (now (out .exit)) r ⌝ }
+{
+    match ending {
+        Ending::Converged => put_text(out, at, b"converged"),
+        Ending::Stuck => put_text(out, at, b"stuck"),
+        Ending::Spent => put_text(out, at, b"spent"),
+    }
+}
+
+// A space and a number.
+fn put_field(out: &mut [u8], at: usize, number: i64) -> usize
+    requires { ⌜ Room (field number) at (now out) ⌝ }
+    ensures { λ r. ⌜ Put (field number) at (now (out .entry)) (now (out .exit)) r ⌝ }
+{
+    let after_space = put_byte(out, at, b' ');
+    put_signed(out, after_space, number)
+}
+
+// Line one: the ending, the steps, b_low and b_up.
+pub fn put_result(out: &mut [u8], at: usize, trained: Trained) -> usize
+    requires { ⌜ Room (resultLine trained) at (now out) ⌝ }
+    ensures { λ r. ⌜ Put (resultLine trained) at (now (out .entry)) (now (out .exit)) r ⌝ }
+{
+    let ending = trained.ending;
+    let after_ending = put_ending(out, at, ending);
+    let after_steps = put_field(out, after_ending, trained.steps as i64);
+    let after_lower = put_field(out, after_steps, trained.lower);
+    let after_upper = put_field(out, after_lower, trained.upper);
+    put_byte(out, after_upper, b'\n')
+}
+
+// The label's sign between two spaces.
+fn put_label(out: &mut [u8], at: usize, label: Label) -> usize
+    requires { ⌜ Room (32 ∷ labelSign label ∷ 32 ∷ []) at (now out) ⌝ }
+    ensures { λ r. ⌜ Put (32 ∷ labelSign label ∷ 32 ∷ []) at (now (out .entry)) (now (out .exit)) r ⌝ }
+{
+    match label {
+        Label::LookedUp => put_text(out, at, b" + "),
+        Label::PassedOver => put_text(out, at, b" - "),
+    }
+}
+
+// The line of an item: its record number, its label and its multiplier.
+fn put_item(out: &mut [u8], at: usize, number: u16, label: Label, multiplier: u32) -> usize
+    requires { ⌜ Room (itemLine number label multiplier) at (now out) ⌝ }
+    ensures { λ r. ⌜ Put (itemLine number label multiplier) at (now (out .entry)) (now (out .exit)) r ⌝ }
+{
+    let after_number = put_number(out, at, number as u64);
+    let after_label = put_label(out, after_number, label);
+    let after_multiplier = put_number(out, after_label, multiplier as u64);
+    put_byte(out, after_multiplier, b'\n')
+}
+
+// A line for each item, in chain order.
+pub fn put_items(
+    file: &[u8],
+    order: &[u16],
+    count: usize,
+    multipliers: &[u32],
+    out: &mut [u8],
+    at: usize,
+) -> usize
+    requires { ⌜ Listed (now file) (now order) count × (count ≤ length (now multipliers)) × Room (joined count (lineIn (now file) (now multipliers))) at (now out) ⌝ }
+    ensures { λ r. ⌜ Put (joined count (lineIn (now (file .entry)) (now (multipliers .entry)))) at (now (out .entry)) (now (out .exit)) r ⌝ }
+{
+    let mut end = at;
+    let mut i = 0;
+    while i < count {
+        let item = fetch(file, order, i);
+        let label = item.label;
+        end = put_item(out, end, order[i], label, multipliers[i]);
+        i += 1;
+    }
+    end
+}

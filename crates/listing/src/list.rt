@@ -1,0 +1,62 @@
+// The listing of any file.
+
+ghost use mathlib.Core.List.{_++_};
+ghost use mathlib.Core.Path.{_≡_};
+ghost use Prim.Native.Nat.{_≤_};
+ghost use lib.ListN.{length, drop};
+ghost use Rattle.training_file.specs.Reading.{reading};
+ghost use Rattle.training_file.specs.Calls.{itemsIn};
+ghost use Rattle.listing.specs.Listing.{itemCount, listingIn, listingOf};
+ghost use Rattle.listing.specs.Put.{Put, Room};
+use super::lines::put_items;
+use super::lines::put_refusal;
+use super::lines::put_result;
+use smo::run::Trained;
+use smo::train::Training;
+use smo::train::train;
+use training_file::reader;
+use training_file::reader::Outcome;
+
+// How many items a file has; a file that is refused has none.
+fn item_count(outcome: Outcome) -> usize
+    ensures { λ r. ⌜ r ≡ itemCount outcome ⌝ }
+{
+    match outcome {
+        Outcome::Refused(_) => 0,
+        Outcome::Accepted(_, count) => count,
+    }
+}
+
+// The result line and a line for each item, in chain order.
+fn put_trained(file: &[u8], trained: Trained, multipliers: &[u32], out: &mut [u8]) -> usize
+    requires { ⌜ (length (itemsIn (reading (now file))) ≤ length (now multipliers)) × Room (listingIn (Training.Ended trained) (now file) (now multipliers)) 0 (now out) ⌝ }
+    ensures { λ r. ⌜ Put (listingIn (Training.Ended trained) (now (file .entry)) (now (multipliers .entry))) 0 (now (out .entry)) (now (out .exit)) r ⌝ }
+{
+    let mut order = [0u16; 256];
+    let count = item_count(reader::order(file, &mut order));
+    let end = put_result(out, 0, trained);
+    put_items(file, &order, count, multipliers, out, end)
+}
+
+// What an answer of training prints.
+fn put_training(file: &[u8], training: Training, multipliers: &[u32], out: &mut [u8]) -> usize
+    requires { ⌜ (length (itemsIn (reading (now file))) ≤ length (now multipliers)) × Room (listingIn training (now file) (now multipliers)) 0 (now out) ⌝ }
+    ensures { λ r. ⌜ Put (listingIn training (now (file .entry)) (now (multipliers .entry))) 0 (now (out .entry)) (now (out .exit)) r ⌝ }
+{
+    match training {
+        Training::Refused(refusal) => put_refusal(out, 0, refusal),
+        Training::Ended(trained) => put_trained(file, trained, multipliers, out),
+    }
+}
+
+// Reads and trains any file, and writes its listing into the buffer's first places; later places keep theirs. No listing is as long as
+// 4,096 bytes: line one has at most 76, and each of at most 256 items adds at most 14.
+pub fn list(file: &[u8], out: &mut [u8]) -> usize
+    requires { ⌜ 4096 ≤ length (now out) ⌝ }
+    ensures { λ r. ⌜ (r ≡ length (listingOf (reading (now (file .entry))))) × (now (out .exit) ≡ listingOf (reading (now (file .entry))) ++ drop r (now (out .entry))) ⌝ }
+{
+    let mut multipliers = [0u32; 256];
+    let mut gradient = [0i64; 256];
+    let training = train(file, &mut multipliers, &mut gradient);
+    put_training(file, training, &multipliers, out)
+}

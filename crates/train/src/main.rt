@@ -1,0 +1,68 @@
+// The training program: one training file on standard input, its listing on standard output (document 01, last part of "Settled examples").
+
+ghost use Prim.Native.Nat.{_≤_};
+ghost use lib.ListN.{length};
+ghost use Rattle.train.specs.Cut.{enough};
+ghost use Rattle.train.specs.Input.{Within};
+use libc::STDERR_FILENO;
+use libc::STDIN_FILENO;
+use libc::STDOUT_FILENO;
+use training_file::item::Item;
+use training_file::layout;
+
+// What standard input gave: so many bytes, or an error.
+pub enum Input {
+    Bytes(usize),
+    Failed,
+}
+
+// One read, into the buffer from a place on: how many bytes came, 0 at the end of the input.
+fn read_some(buffer: &mut [u8], from: usize) -> Input
+    requires { ⌜ from ≤ length (now buffer) ⌝ }
+    ensures { λ r. ⌜ Within from r (now (buffer .entry)) ⌝ }
+{
+    let rest = &mut buffer[from..];
+    let got = libc::read(STDIN_FILENO, rest);
+    if got < 0 {
+        return Input::Failed;
+    }
+    Input::Bytes(io::count(got, rest))
+}
+
+// Reads until the buffer is full or the input ends. The buffer is long enough for the listing to be that of the whole input, read or not
+// (`cut-same` of specs/Cut.antt).
+fn read_input(buffer: &mut [u8]) -> Input
+    requires { ⌜ enough ≤ length (now buffer) ⌝ }
+    ensures { λ r. ⌜ Within 0 r (now (buffer .entry)) ⌝ }
+{
+    let mut count = 0;
+    while count < buffer.len() {
+        let input = read_some(buffer, count);
+        let Input::Bytes(more) = input else {
+            return Input::Failed;
+        };
+        if more == 0 {
+            return Input::Bytes(count);
+        }
+        count += more;
+    }
+    Input::Bytes(count)
+}
+
+// A place more than the longest file that is accepted: a file that fills them all is longer than any that is accepted, and is refused with
+// 1 for its length, whatever bytes follow. So no further byte has to be read.
+const PLACES: usize = layout::HEADER_LENGTH + layout::RECORD_LENGTH * Item::MAX_COUNT + 1;
+
+fn main() {
+    let mut file = [0u8; PLACES];
+    let input = read_input(&mut file);
+    let Input::Bytes(count) = input else {
+        io::write_all(STDERR_FILENO, b"train: standard input cannot be read\n");
+        return;
+    };
+    let mut out = [0u8; 4096];
+    let end = listing::list::list(&file[..count], &mut out);
+    if !io::write_all(STDOUT_FILENO, &out[..end]) {
+        io::write_all(STDERR_FILENO, b"train: standard output cannot be written\n");
+    }
+}
