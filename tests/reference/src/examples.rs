@@ -145,3 +145,30 @@ pub fn full_chain(last_next: u16) -> Vec<u8> {
     file[last..last + 2].copy_from_slice(&last_next.to_le_bytes());
     file
 }
+
+/// The cases that the paper has run only: the three records cut off after 31 and
+/// 32 bytes, with a feature at or past either end of its range, and with a record
+/// that is its own next; 256 records, all chained, and a record more.
+pub fn run_only() -> Vec<Vec<u8>> {
+    const NEXT_OF_RECORD_3: usize = 72;
+    const FEATURE_OF_RECORD_3: usize = 76;
+    let whole = three_records();
+    let with = |at: usize, byte: u8| {
+        let mut file = whole.clone();
+        file[at] = byte;
+        file
+    };
+    let mut files = Vec::from([31, 32].map(|length| whole[..length].to_vec()));
+    files.extend([100i8, 101, -100, -101].map(|feature| with(FEATURE_OF_RECORD_3, feature as u8)));
+    files.push(with(NEXT_OF_RECORD_3, 3));
+    files.push(full_chain(0));
+    files.push(one_record_more(full_chain(0)));
+    files
+}
+
+fn one_record_more(mut file: Vec<u8>) -> Vec<u8> {
+    let records = u16::from_le_bytes([file[0], file[1]]) + 1;
+    file[..2].copy_from_slice(&records.to_le_bytes());
+    file.extend([0; RECORD_BYTES]);
+    file
+}

@@ -1,12 +1,12 @@
-//! Writes the vectors: `vectors FOLDER` makes `files.bin` and `listings.txt` in
-//! that folder, always the same, and prints how many files have each answer.
+//! Writes the vectors: `vectors FOLDER` makes `files.bin`, `listings.txt` and the
+//! files one by one in that folder, always the same, and prints how many files have each answer.
 //!
 //! `files.bin` holds, for each file, its length as two bytes, little endian, and
 //! then its bytes. `listings.txt` holds, for each file, the line `file K`, K
-//! from 1, and then what the training program prints for it. The last file takes
-//! 67,411 steps; all others together take a few thousand.
+//! from 1, and then what the training program prints for it. `K.log` is the file
+//! alone. The last file takes 67,411 steps; all others together take a few thousand.
 
-use reference::examples::{full_chain, long_run, settled, three_records};
+use reference::examples::{full_chain, long_run, run_only, settled, three_records};
 use reference::generate::{causes, damaged, noise, sound, sound_with, Random};
 use reference::{file, listing, run};
 use std::collections::BTreeMap;
@@ -27,8 +27,12 @@ fn main() -> std::io::Result<()> {
     };
     let files = files();
     let listings: Vec<String> = files.iter().map(|file| listing(file)).collect();
-    std::fs::write(Path::new(&folder).join("files.bin"), packed(&files))?;
-    std::fs::write(Path::new(&folder).join("listings.txt"), numbered(&listings))?;
+    let folder = Path::new(&folder);
+    std::fs::write(folder.join("files.bin"), packed(&files))?;
+    std::fs::write(folder.join("listings.txt"), numbered(&listings))?;
+    for (k, file) in files.iter().enumerate() {
+        std::fs::write(folder.join(format!("{}.log", k + 1)), file)?;
+    }
     print_counts(&files, &listings);
     Ok(())
 }
@@ -37,6 +41,7 @@ fn files() -> Vec<Vec<u8>> {
     let random = &mut Random::new(SEED);
     let mut files = settled();
     files.push(three_records());
+    files.extend(run_only());
     files.extend(thinned(causes(random)));
     files.extend((0..SOUND).map(|_| sound(random)));
     files.extend((0..LARGEST).map(|_| sound_with(random, file::MOST_RECORDS)));
