@@ -1,39 +1,12 @@
 //! Trains on a small file, certifies the result and classifies two words.
 
+#[path = "../../include/lookahead.rs"]
+mod declared;
+
 /// The library's calls behind safe functions: a slice brings its length along,
 /// and what a call writes is a place of its own.
 mod lookahead {
-    extern "C" {
-        fn lookahead_train(
-            file: *const u8,
-            file_len: usize,
-            multipliers: *mut u32,
-            multipliers_len: usize,
-            gradient: *mut i64,
-            gradient_len: usize,
-            ending: *mut u8,
-            steps: *mut u32,
-            lower: *mut i64,
-            upper: *mut i64,
-        ) -> u8;
-        fn lookahead_certify(
-            file: *const u8,
-            file_len: usize,
-            multipliers: *const u32,
-            multipliers_len: usize,
-            lower: *mut i64,
-            upper: *mut i64,
-        ) -> u8;
-        fn lookahead_classify(
-            file: *const u8,
-            file_len: usize,
-            multipliers: *const u32,
-            multipliers_len: usize,
-            word: *const i8,
-            word_len: usize,
-            class: *mut u8,
-        ) -> u8;
-    }
+    use super::declared::{lookahead_certify, lookahead_classify, lookahead_train};
 
     /// The number of a refusal, 1 to 9; include/lookahead.h says what each means.
     #[derive(Debug)]

@@ -4,39 +4,11 @@
 //! again as they were; the file, the multipliers and the word that a call may
 //! only read are looked at afterwards too.
 
-use reference::generate::Random;
+#[path = "../../../include/lookahead.rs"]
+mod declared;
 
-extern "C" {
-    fn lookahead_train(
-        file: *const u8,
-        file_len: usize,
-        multipliers: *mut u32,
-        multipliers_len: usize,
-        gradient: *mut i64,
-        gradient_len: usize,
-        ending: *mut u8,
-        steps: *mut u32,
-        lower: *mut i64,
-        upper: *mut i64,
-    ) -> u8;
-    fn lookahead_certify(
-        file: *const u8,
-        file_len: usize,
-        multipliers: *const u32,
-        multipliers_len: usize,
-        lower: *mut i64,
-        upper: *mut i64,
-    ) -> u8;
-    fn lookahead_classify(
-        file: *const u8,
-        file_len: usize,
-        multipliers: *const u32,
-        multipliers_len: usize,
-        word: *const i8,
-        word_len: usize,
-        class: *mut u8,
-    ) -> u8;
-}
+use declared::{lookahead_certify, lookahead_classify, lookahead_train};
+use reference::generate::Random;
 
 /// Places kept on either side of what is lent.
 const MARGIN: usize = 4;

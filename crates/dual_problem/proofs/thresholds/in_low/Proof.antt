@@ -1,5 +1,7 @@
--- `dual_problem::thresholds::in_low` meets its contract. Assumes nothing.
+-- `dual_problem::thresholds::in_low` meets its contract: in each arm the label is the variant named. Assumes nothing.
+use mathlib.Core.Path.{ap, sym}
 use borrow.Author.Needs.{needs}
+use Rattle.dual_problem.specs.Problem.{in-low}
 use Rattle.dual_problem.proofs.thresholds.in_low.Statement.{statement}
 use Rattle.dual_problem.proofs.thresholds.in_low.Tie as tie
 
@@ -10,10 +12,10 @@ enum-told-2 : tie.Need-enum-told-2
 enum-told-2 c = search needs
 
 returns : tie.Need-returns
-returns c = cc
+returns c = let s = c .before .before in sym (ap (λ l. in-low l (s .args .multiplier) (s .args .ceiling)) (c .enum-told .given .1))
 
 returns-2 : tie.Need-returns-2
-returns-2 c = cc
+returns-2 c = let s = c .before .before in sym (ap (λ l. in-low l (s .args .multiplier) (s .args .ceiling)) (c .enum-told2 .given .1))
 
 pub in-low-spec : {M : Type 1} → statement M
 in-low-spec = tie.close (tie.spec enum-told enum-told-2 returns returns-2)
