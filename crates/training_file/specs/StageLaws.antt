@@ -18,7 +18,7 @@ use Rattle.training_file.specs.declared.parameters.Parameters.{Parameter
 use Rattle.training_file.specs.declared.parameters.ParametersAnswer.the-variants.{Allowed}
 use Rattle.training_file.specs.declared.parameters.ParametersAnswer.the-variants as parameters-answer
 use Rattle.training_file.specs.declared.item.Label.the-variants.{LookedUp}
-use Rattle.training_file.specs.declared.chain.Step.the-variants.{Ended, Broken, Next}
+use Rattle.training_file.specs.declared.step.Step.the-variants.{Ended, Broken, Next}
 use Rattle.training_file.specs.Layout.{firstRecord, labelByte, nextOf, recordsStored}
 use Rattle.training_file.specs.Header.{headerAllowed, parametersOf}
 use Rattle.training_file.specs.Item.{labelOf, same}

@@ -18,8 +18,8 @@ use Rattle.training_file.specs.declared.parameters.ParametersAnswer.the-
 use Rattle.training_file.specs.declared.item.Label.the-variants.{LookedUp}
 use Rattle.training_file.specs.declared.item.LabelAnswer.{LabelAnswer}
 use Rattle.training_file.specs.declared.item.LabelAnswer.the-variants as label-answer
-use Rattle.training_file.specs.declared.chain.Step.{Step}
-use Rattle.training_file.specs.declared.chain.Step.the-variants.{Ended, Broken, Next}
+use Rattle.training_file.specs.declared.step.Step.{Step}
+use Rattle.training_file.specs.declared.step.Step.the-variants.{Ended, Broken, Next}
 use Rattle.training_file.specs.Layout.{labelByte, nextOf, recordsStored}
 use Rattle.training_file.specs.Parameters.{kernelAllowed, kernelOf, parametersAllowed}
 use Rattle.training_file.specs.Header.{headerAllowed, lengthAllowed, parametersOf, recordsMost}

@@ -6,51 +6,23 @@ ghost use mathlib.Core.Path.{_≡_};
 ghost use Prim.Native.Nat.{min};
 ghost use Rattle.training_file.specs.Reading.{chainOf};
 ghost use Rattle.training_file.specs.Calls.{tableWith};
-ghost use Rattle.training_file.specs.Stages.{Chained, Holds, judgeAnswer, orderOf, stepAt, walkAnswer};
-use super::bytes::u16_at;
+ghost use Rattle.training_file.specs.Stages.{Chained, Holds, judgeAnswer, orderOf, walkAnswer};
 use super::item::LabelAnswer;
-use super::layout;
 use super::record;
 use super::refusal::Count;
 use super::refusal::Refusal;
-
-// What the walk finds at a number.
-pub enum Step {
-    // The number is 0, which ends the chain.
-    Ended,
-    // The number is over those stored; or as many records were met as are stored, and this one was among them.
-    Broken,
-    // The number is a record's, and this is the record's next number.
-    Next(usize),
-}
-
-// One step of the walk, at a number, with so many records met before it.
-pub fn step_at(file: &[u8], number: usize, met: usize) -> Step
-    requires { ⌜ Holds (now file) ⌝ }
-    ensures { λ r. ⌜ r ≡ stepAt (now (file .entry)) number met ⌝ }
-{
-    if number == 0 {
-        return Step::Ended;
-    }
-    let stored = u16_at(file, layout::RECORDS_STORED) as usize;
-    if stored < number {
-        return Step::Broken;
-    }
-    if stored <= met {
-        return Step::Broken;
-    }
-    Step::Next(record::next(file, number))
-}
+use super::step::Step;
+use super::walker;
 
 // How many records are on the chain. Refused where a number is over those stored, or a record is met twice.
 pub fn walk(file: &[u8]) -> Count
     requires { ⌜ Holds (now file) ⌝ }
     ensures { λ r. ⌜ r ≡ walkAnswer (chainOf (now (file .entry))) ⌝ }
 {
-    let mut number = u16_at(file, layout::FIRST_RECORD) as usize;
+    let mut number = walker::first(file);
     let mut met = 0;
     loop {
-        match step_at(file, number, met) {
+        match walker::step_from(file, number, met) {
             Step::Ended => {
                 return Count::Counted(met);
             }
@@ -70,7 +42,7 @@ pub fn judge(file: &[u8], count: usize, used: usize) -> Count
     requires { ⌜ Chained (now file) count ⌝ }
     ensures { λ r. ⌜ r ≡ judgeAnswer used (now (file .entry)) 0 (orderOf (now (file .entry))) ⌝ }
 {
-    let mut number = u16_at(file, layout::FIRST_RECORD) as usize;
+    let mut number = walker::first(file);
     let mut position = 0;
     let mut looked_up = 0;
     while position < count {
@@ -97,7 +69,7 @@ pub fn fill(file: &[u8], count: usize, table: &mut [u16])
     ensures { λ _. ⌜ now (table .exit) ≡ tableWith (orderOf (now (file .entry))) (now (table .entry)) ⌝ }
 {
     let places = lesser(count, table.len());
-    let mut number = u16_at(file, layout::FIRST_RECORD) as usize;
+    let mut number = walker::first(file);
     let mut position = 0;
     while position < places {
         table[position] = number as u16;

@@ -10,4 +10,5 @@ pub mod parameters;
 pub mod reader;
 pub mod record;
 pub mod refusal;
+pub mod step;
 pub mod walker;

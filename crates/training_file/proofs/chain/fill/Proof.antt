@@ -27,23 +27,15 @@ module _ (c : tie.In-loop Inv-loop μ-loop) where
   of-table : c .before .loop .position < length (c .before .before .before .before .before .before .args .table .now)
   of-table = omega (arith, c .before .before .before .lesser .ensures)
 
--- src/chain.rt:70:9
 lesser-requires : tie.Need-lesser-requires Inv-loop μ-loop
 lesser-requires c κs = search needs
 
--- src/chain.rt:71:22
-u16-at-requires : tie.Need-u16-at-requires Inv-loop μ-loop
-u16-at-requires c κs = search needs
+first-requires : tie.Need-first-requires Inv-loop μ-loop
+first-requires c κs = search needs
 
--- src/chain.rt:71:22
-cast-number : tie.Need-cast-number Inv-loop μ-loop
-cast-number c = search needs
-
--- src/chain.rt:73:5
 loop-holds : tie.Need-loop-holds Inv-loop μ-loop
-loop-holds c = (c .u16-at .ensures ∙ order-first _ _ (c .before .before .before .before .pre), omega arith, refl, refl)
+loop-holds c = (c .first .ensures ∙ order-first _ _ (c .before .before .before .before .pre), omega arith, refl, refl)
 
--- src/chain.rt:74:27
 cast-table : tie.Need-cast-table Inv-loop μ-loop
 cast-table c =
     let start = c .before .before .before .before .before .before in
@@ -52,27 +44,21 @@ cast-table c =
     let n = c .before .loop .inv .0 in
     omega arith
 
--- src/chain.rt:74:9
 mul-table : tie.Need-mul-table Inv-loop μ-loop
 mul-table c = scaled-fits _ _ _ (of-table c) (c .before .before .before .before .before .before .good .1 .1 .0 .1)
 
--- src/chain.rt:74:9
 slice-write-table : tie.Need-slice-write-table Inv-loop μ-loop
 slice-write-table c = let h = of-table c in omega arith
 
--- src/chain.rt:75:9
 next-requires : tie.Need-next-requires Inv-loop μ-loop
 next-requires c κs = order-stored _ _ (c .before .before .before .before .before .before .pre) _ _ (of-chain c) (c .before .loop .inv .0)
 
--- src/chain.rt:76:9
 add-position : tie.Need-add-position Inv-loop μ-loop
 add-position c = search needs
 
--- src/chain.rt:73:5
 loop-less : tie.Need-loop-less Inv-loop μ-loop
 loop-less c = search needs
 
--- src/chain.rt:73:5
 loop-again : tie.Need-loop-again Inv-loop μ-loop
 loop-again c =
     let turn = c .before in
@@ -84,11 +70,9 @@ loop-again c =
       rw (turn .before .loop .inv .3) (fill-more _ _ _ _ (omega (arith, start .pre .counted)) (of-table turn) (turn .before .loop .inv .0)),
     )
 
--- src/chain.rt:66:1
 same-length : tie.Need-same-length Inv-loop μ-loop
 same-length c = c .before .loop .inv .2
 
--- src/chain.rt:66:1
 returns : tie.Need-returns Inv-loop μ-loop
 returns c =
     let start = c .before .before .before .before .before .before in
@@ -103,8 +87,7 @@ fill-spec =
     Inv-loop
     μ-loop
     lesser-requires
-    u16-at-requires
-    cast-number
+    first-requires
     loop-holds
     cast-table
     mul-table

@@ -41,35 +41,24 @@ module _ (c : tie.After-looked-up Inv-loop μ-loop) where
   most : c .looked-up .result ≤ 1
   most = rw (c .looked-up .ensures) (same-most LookedUp (c .before .before .answer .given .0 .0))
 
--- src/chain.rt:44:22
-u16-at-requires : tie.Need-u16-at-requires Inv-loop μ-loop
-u16-at-requires c κs = search needs
+first-requires : tie.Need-first-requires Inv-loop μ-loop
+first-requires c κs = search needs
 
--- src/chain.rt:44:22
-cast-number : tie.Need-cast-number Inv-loop μ-loop
-cast-number c = search needs
-
--- src/chain.rt:47:5
 loop-holds : tie.Need-loop-holds Inv-loop μ-loop
-loop-holds c = (c .u16-at .ensures ∙ order-first _ _ (c .before .before .pre), omega arith, omega arith, refl)
+loop-holds c = (c .first .ensures ∙ order-first _ _ (c .before .before .pre), omega arith, omega arith, refl)
 
--- src/chain.rt:48:13
 judge-requires : tie.Need-judge-requires Inv-loop μ-loop
 judge-requires c κs = stored (c .before) (c .loop-test .taken)
 
--- src/chain.rt:49:32
 enum-known-answer : tie.Need-enum-known-answer Inv-loop μ-loop
 enum-known-answer c = search needs
 
--- src/chain.rt:50:35
 enum-told : tie.Need-enum-told Inv-loop μ-loop
 enum-told c = search needs
 
--- src/chain.rt:50:35
 refusal-requires : tie.Need-refusal-requires Inv-loop μ-loop
 refusal-requires c κs = search needs
 
--- src/chain.rt:50:13
 returns : tie.Need-returns Inv-loop μ-loop
 returns c =
     let judged = c .before .before .before in
@@ -77,27 +66,21 @@ returns c =
     ap Refused (c .refusal .ensures ∙ ap labelRefusal (answered judged) ∙ (rw fails))
     ∙ sym (judged .before .before .loop .inv .3 ∙ judge-refused _ _ _ _ _ (place judged) fails)
 
--- src/chain.rt:52:22
 looked-up-requires : tie.Need-looked-up-requires Inv-loop μ-loop
 looked-up-requires c κs = search needs
 
--- src/chain.rt:52:9
 add-looked-up : tie.Need-add-looked-up Inv-loop μ-loop
 add-looked-up c = let m = most c in omega arith
 
--- src/chain.rt:53:9
 next-requires : tie.Need-next-requires Inv-loop μ-loop
 next-requires c κs = stored (c .before .before .before .before .before .before) (c .before .before .before .before .before .loop-test .taken)
 
--- src/chain.rt:54:9
 add-position : tie.Need-add-position Inv-loop μ-loop
 add-position c = search needs
 
--- src/chain.rt:47:5
 loop-less : tie.Need-loop-less Inv-loop μ-loop
 loop-less c = search needs
 
--- src/chain.rt:47:5
 loop-again : tie.Need-loop-again Inv-loop μ-loop
 loop-again c =
     let m = most (c .before) in
@@ -110,7 +93,6 @@ loop-again c =
           ∙ judge-allowed _ _ _ _ _ _ (place judged) (allowed .0) (c .before .looked-up .ensures ∙ sym (ap (same LookedUp) (allowed .1))),
     )
 
--- src/chain.rt:40:1
 returns-2 : tie.Need-returns-2 Inv-loop μ-loop
 returns-2 c =
     sym
@@ -124,8 +106,7 @@ judge-spec =
     (tie.spec
     Inv-loop
     μ-loop
-    u16-at-requires
-    cast-number
+    first-requires
     loop-holds
     judge-requires
     enum-known-answer

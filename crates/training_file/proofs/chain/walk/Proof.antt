@@ -21,19 +21,16 @@ module _ (c : tie.After-known-told Inv-loop μ-loop) where
   turn = c .before .before .before .before
 
   onward : (Passed (turn .before .before .before .args .file .now) (c .before .next .given .0 .0) (turn .loop .met + 1)) × (turn .loop .met < recordsStored (turn .before .before .before .args .file .now))
-  onward = step-next _ _ _ (turn .loop .inv) _ (sym (c .before .before .before .step-at .ensures) ∙ c .before .next .given .1)
+  onward = step-next _ _ _ (turn .loop .inv) _ (sym (c .before .before .before .step-from .ensures) ∙ c .before .next .given .1)
 
-u16-at-requires : tie.Need-u16-at-requires Inv-loop μ-loop
-u16-at-requires c κs = search needs
-
-cast-number : tie.Need-cast-number Inv-loop μ-loop
-cast-number c = search needs
+first-requires : tie.Need-first-requires Inv-loop μ-loop
+first-requires c κs = search needs
 
 loop-holds : tie.Need-loop-holds Inv-loop μ-loop
-loop-holds c = subst (λ (number : ℕ). Passed (c .before .before .args .file .now) number 0) (sym (c .u16-at .ensures)) (passed-first _)
+loop-holds c = subst (λ (number : ℕ). Passed (c .before .before .args .file .now) number 0) (sym (c .first .ensures)) (passed-first _)
 
-step-at-requires : tie.Need-step-at-requires Inv-loop μ-loop
-step-at-requires c κs = search needs
+step-from-requires : tie.Need-step-from-requires Inv-loop μ-loop
+step-from-requires c κs = search needs
 
 enum-told : tie.Need-enum-told Inv-loop μ-loop
 enum-told c = search needs
@@ -41,7 +38,7 @@ enum-told c = search needs
 returns : tie.Need-returns Inv-loop μ-loop
 returns c =
     let turn = c .before .before .before in
-    sym (step-ended _ _ _ (turn .loop .inv) (sym (c .before .before .step-at .ensures) ∙ c .enum-told .given .1))
+    sym (step-ended _ _ _ (turn .loop .inv) (sym (c .before .before .step-from .ensures) ∙ c .enum-told .given .1))
 
 enum-told-2 : tie.Need-enum-told-2 Inv-loop μ-loop
 enum-told-2 c = search needs
@@ -53,7 +50,7 @@ returns-2 : tie.Need-returns-2 Inv-loop μ-loop
 returns-2 c =
     let turn = c .before .before .before .before in
     c .refused .ensures
-    ∙ sym (step-broken _ _ _ (turn .loop .inv) (sym (c .before .before .before .step-at .ensures) ∙ c .before .enum-told2 .given .1))
+    ∙ sym (step-broken _ _ _ (turn .loop .inv) (sym (c .before .before .before .step-from .ensures) ∙ c .before .enum-told2 .given .1))
 
 enum-known-next : tie.Need-enum-known-next Inv-loop μ-loop
 enum-known-next c = search needs
@@ -73,10 +70,9 @@ walk-spec =
     (tie.spec
     Inv-loop
     μ-loop
-    u16-at-requires
-    cast-number
+    first-requires
     loop-holds
-    step-at-requires
+    step-from-requires
     enum-told
     returns
     enum-told-2

@@ -1,4 +1,4 @@
--- `training_file::walker::step` meets its contract: a walk of its MIR, by hand. The struct is taken apart, and `chain::step_at` is called on the slice and the numbers. All that the proof knows of `step_at` is that it meets its contract.
+-- `training_file::walker::step` meets its contract: a walk of its MIR, by hand. The struct is taken apart, and `step::step_at` is called on the slice and the numbers. All that the proof knows of `step_at` is that it meets its contract.
 -- The struct is Copy: what it owns is had twice, one copy is kept whole for the exit, and of the other what file owns goes to the callee, beside the lifetime's token, which comes back.
 -- Assumes nothing.
 use mathlib.Core.Path.{_≡_, refl}
@@ -45,15 +45,15 @@ use denote.Exit.{yes}
 use denote.Triple.Clauses.{ensured, lasts}
 use Rattle.training_file.specs.Stages.{Holds, stepAt}
 use Rattle.training_file.specs.declared.walker.Walker.{Walker}
-use Rattle.training_file.specs.declared.chain.Step.{Step}
+use Rattle.training_file.specs.declared.step.Step.{Step}
 use Rattle.training_file.proofs.walker.Walker as R
 use Rattle.training_file.proofs.walker.Walker.Laws as R′
-use Rattle.training_file.proofs.chain.Step as S
-use Rattle.training_file.proofs.chain.Step.Laws as S′
-use Rattle.training_file.proofs.chain.step_at as core
-use Rattle.training_file.proofs.chain.step_at.Symbol as core-def
-use Rattle.training_file.proofs.chain.step_at.Symbol.{name as #chain·step-at}
-use Rattle.training_file.proofs.chain.step_at.Met as core-thm
+use Rattle.training_file.proofs.step.Step as S
+use Rattle.training_file.proofs.step.Step.Laws as S′
+use Rattle.training_file.proofs.step.step_at as core
+use Rattle.training_file.proofs.step.step_at.Symbol as core-def
+use Rattle.training_file.proofs.step.step_at.Symbol.{name as #step·step-at}
+use Rattle.training_file.proofs.step.step_at.Met as core-thm
 use Rattle.training_file.proofs.walker.step.Key.{name as #walker·step}
 use Rattle.training_file.proofs.walker.step as step
 use Rattle.training_file.proofs.walker.step.Statement as stated
@@ -128,7 +128,7 @@ module _ {M : Type 1} (𝓤 : URA M) (H : Heap 𝓤) (A : Atoms 𝓤) (W : Given
       suffices ! _ (ends-at 𝓤 H A step.ended stayed (step.clauses 𝓤 H A mem run) W (((κ, tt), (q, tt), tt, (d, tt), (mach ∷ [], tt)), tt) u r (tt, tt) (tt, tt)) $ says ! e $
       move ! (1 ∷ []) $ frame ! $ nothing ! $ move ! (2 ∷ 0 ∷ []) $ fjoin ! $ frame ! $ done !
 
-  module _ (C : Calls 𝓤 H) (Λ : Loops 𝓤 H) (fm : FmC 𝓤 H (W .laws) C) (known : Triple 𝓤 (C #chain·step-at) (StepAt 𝓤 H A mem run)) where
+  module _ (C : Calls 𝓤 H) (Λ : Loops 𝓤 H) (fm : FmC 𝓤 H (W .laws) C) (known : Triple 𝓤 (C #step·step-at) (StepAt 𝓤 H A mem run)) where
     walk : T (hasTy (R′.mir (named 0)) mach) × WT mach → Holds (now (d .file)) → ent 𝓤 (onEntry 𝓤 H A step.signature (κ, tt) (q, tt) (d, tt) (mach ∷ [], tt)) (WpFn 𝓤 H C Λ code.function (mach ∷ []) Post)
     walk wt held =
         qed W (raw (onEntry 𝓤 H A step.signature (κ, tt) (q, tt) (d, tt) (mach ∷ [], tt)) ∷ []) ∵ enter ! C Λ code.function (mach ∷ []) _ $
@@ -147,14 +147,14 @@ module _ {M : Type 1} (𝓤 : URA M) (H : Heap 𝓤) (A : Atoms 𝓤) (W : Given
         move ! (11 ∷ 12 ∷ []) $ free1 ! $ move ! (9 ∷ 10 ∷ []) $ free1 ! $ move ! (7 ∷ 8 ∷ []) $ free1 ! $ move ! (5 ∷ 6 ∷ []) $ free1 ! $ move ! (3 ∷ 4 ∷ []) $ free1 ! $ free0 ! $ by ! (exits r u e))))))))))
 
 module _ {M : Type 1} (𝓤 : URA M) (H : Heap 𝓤) (A : Atoms 𝓤) (W : Given 𝓤 H A) (mem : Memory → SProp 𝓤) (run : Routine → Fun 𝓤) where
-  step-walks : (C : Calls 𝓤 H) (Λ : Loops 𝓤 H) → FmC 𝓤 H (W .laws) C → Triple 𝓤 (C #chain·step-at) (StepAt 𝓤 H A mem run)
+  step-walks : (C : Calls 𝓤 H) (Λ : Loops 𝓤 H) → FmC 𝓤 H (W .laws) C → Triple 𝓤 (C #step·step-at) (StepAt 𝓤 H A mem run)
       → Walks 𝓤 H A step.ended stayed (WpFn 𝓤 H C Λ code.function) (step.clauses 𝓤 H A mem run)
   step-walks C Λ fm known = walked 𝓤 H A step.ended stayed (step.clauses 𝓤 H A mem run) (WpFn 𝓤 H C Λ code.function) (λ κs. (LL.vals (R.the-type (namedLft 1 0 tt κs)) (R′.the-laws (namedLft 1 0 tt κs)), tt)) (λ κs. (LL.tells (R.the-type (namedLft 1 0 tt κs)) (R′.the-laws (namedLft 1 0 tt κs)), tt))
       (λ κs qs bounds a g are. needs 𝓤 (Holds (now (a .0 .file))) _ (λ held.
       walk 𝓤 H A W mem run (κs .0) (qs .0) (a .0) C Λ fm known (LL.lawful (R.the-type (namedLft 1 0 tt κs)) (R′.the-laws (namedLft 1 0 tt κs)) 𝓤 H A W .typed (a .0) _ (are .0) .0) held))
 
 step-meets : {M : Type 1} (𝓤 : URA M) (H : Heap 𝓤) (A : Atoms 𝓤) (W : Given 𝓤 H A) (mem : Memory → SProp 𝓤) (run : Routine → Fun 𝓤) (𝓣 : Tables 𝓤 H)
-    → Triple 𝓤 (𝓣 .C #chain·step-at) (StepAt 𝓤 H A mem run)
+    → Triple 𝓤 (𝓣 .C #step·step-at) (StepAt 𝓤 H A mem run)
     → Meets 𝓤 H A step.signature (WpFn 𝓤 H (𝓣 .C) (𝓣 .Λ) code.function) (step.spec 𝓤 H A mem run)
 step-meets 𝓤 H A W mem run 𝓣 known-core = walk-meets 𝓤 H A step.ended stayed W (goes-none 𝓤 H A W 1 B yes (λ κs x f. refl), tt) (step.clauses 𝓤 H A mem run) (WpFn 𝓤 H (𝓣 .C) (𝓣 .Λ) code.function) (WpFn-mono 𝓤 H (W .laws) 𝓣 code.function)
     (step-walks 𝓤 H A W mem run (𝓣 .C) (𝓣 .Λ) (fmOf 𝓤 H (W .laws) 𝓣) known-core)
@@ -165,4 +165,4 @@ step-spec 𝓤 H 𝓜 𝓖 𝓡 =
     entered 𝓤 H (tripleOf 𝓤 H (𝓖 .A) step.signature (step.spec 𝓤 H (𝓖 .A) (𝓜 .mem) (𝓡 .run)))
     (tables 𝓤 H 𝓜 𝓡 code.env .C) (tables 𝓤 H 𝓜 𝓡 code.env .Λ) #walker·step code.function (code.unfolded 𝓤 H 𝓜 𝓡)
     (step-meets 𝓤 H (𝓖 .A) (givenOf 𝓤 H 𝓜 𝓖) (𝓜 .mem) (𝓡 .run) (tablesOf 𝓤 H 𝓜 (tables 𝓤 H 𝓜 𝓡 code.env))
-    (cited 𝓤 H (StepAt 𝓤 H (𝓖 .A) (𝓜 .mem) (𝓡 .run)) 𝓜 𝓡 code.env #chain·step-at core-def.routine code.calls-training-file·chain·step-at (core-thm.met 𝓤 H 𝓜 𝓖 𝓡)))
+    (cited 𝓤 H (StepAt 𝓤 H (𝓖 .A) (𝓜 .mem) (𝓡 .run)) 𝓜 𝓡 code.env #step·step-at core-def.routine code.calls-training-file·step·step-at (core-thm.met 𝓤 H 𝓜 𝓖 𝓡)))

@@ -1,14 +1,14 @@
--- `training_file::chain::step_at` meets its contract: each answer follows from the tests before it. Assumes nothing.
+-- `training_file::step::step_at` meets its contract: each answer follows from the tests before it. Assumes nothing.
 use mathlib.Core.Path.{ap}
 use mathlib.Core.Bool.{and-false}
 use Prim.Native.Nat.{_≤_, _<_}
 use lib.Dec.{leb}
 use borrow.Author.Tests.{lt-leb, le-leb, lt-ltb, le-ltb, ne-eqb}
-use Rattle.training_file.specs.declared.chain.Step.the-variants.{Next}
+use Rattle.training_file.specs.declared.step.Step.the-variants.{Next}
 use Rattle.training_file.specs.Layout.{recordsStored}
 use borrow.Author.Needs.{needs}
-use Rattle.training_file.proofs.chain.step_at.Statement.{statement}
-use Rattle.training_file.proofs.chain.step_at.Tie as tie
+use Rattle.training_file.proofs.step.step_at.Statement.{statement}
+use Rattle.training_file.proofs.step.step_at.Tie as tie
 
 returns : tie.Need-returns
 returns c = rw (c .if1 .taken)
