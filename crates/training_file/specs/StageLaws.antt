@@ -10,7 +10,7 @@ use native.Mathlib.Decide.{decLe}
 use native.Mathlib.Omega.{arith}
 use lib.Dec.{leb, ltb, eqb}
 use lib.ListN.{length, getD, set, take, drop, drop-of-length-le}
-use borrow.Author.Tests.{leb-true, leb-false, ltb-true, ltb-false, eqb-true, eqb-false}
+use borrow.Author.Tests.{le-leb, lt-ltb, ne-eqb, leb-true, leb-false, ltb-true, ltb-false, eqb-true, eqb-false}
 use lib.Seq.{append-snoc, drop-cons, drop-length, length-take-le, set-at, take-all, take-length, take-suc}
 use Rattle.training_file.specs.declared.refusal.Refusal.{Refusal}
 use Rattle.training_file.specs.declared.refusal.Count.the-variants.{Refused, Counted}
@@ -26,9 +26,9 @@ use Rattle.training_file.specs.Record.{Stored, recordAllowed}
 use Rattle.training_file.specs.Chain.{IsChain, Passes, Walk, after, broken, ends, reached}
 use Rattle.training_file.specs.Reading.{chainOf, every, labelled}
 use Rattle.training_file.specs.Calls.{tableWith}
-use Rattle.training_file.specs.Stages.{Chained, Holds, countIf, headerAnswer, judgeAnswer, orderOf, recordsOf, stepAt, walkAnswer}
+use Rattle.training_file.specs.Stages.{Chained, Holds, countIf, headerAnswer, judgeAnswer, orderOf, recordsOf, stepAt, stepNext, walkAnswer}
 use Rattle.training_file.specs.TestLaws.{and-both, and-either, chose-first, chose-second}
-use Rattle.training_file.specs.ChainLaws.{length-reached, passes-suc, passes-zero, walk-after-over, walk-after-spent, walk-after-zero, walk-sound}
+use Rattle.training_file.specs.ChainLaws.{chain-length, length-reached, passes-suc, passes-zero, walk-after-over, walk-after-spent, walk-after-zero, walk-sound}
 
 -- ---- what an answer says
 
@@ -152,9 +152,17 @@ module _ (file : List ℕ) (n : ℕ) (chained : Chained file n) where
         subst (Stored file) (sym e)
         (holds-stored file (getD (orderOf file) k 0) (chained .holds) (order-within k h .0) (order-within k h .1))
 
-    pub order-next : nextOf file number ≡ getD (orderOf file) (k + 1) 0
+    -- a step with k records met finds the record, and leads to the one at the next place
+    order-step : stepAt file number k ≡ Next (nextOf file number)
+    order-step =
+        let within : number ≤ recordsStored file = omega (arith, order-within k h .1) in
+        let left : k < recordsStored file = omega (arith, chained .counted, chain-length (nextOf file) (recordsStored file) (firstRecord file) (orderOf file) order-is-chain) in
+        rw (ne-eqb number 0 (λ z. omega (arith, order-within k h .0)), le-leb number (recordsStored file) within, lt-ltb k (recordsStored file) left)
+
+    pub order-next : stepNext (stepAt file number k) ≡ getD (orderOf file) (k + 1) 0
     order-next =
-        ap (nextOf file) e
+        ap stepNext order-step
+        ∙ ap (nextOf file) e
         ∙ order-is-chain .links k (rw (chained .counted) at h)
         ∙ ap (λ (j : ℕ). getD (orderOf file) j 0) (sym (add-one k))
 

@@ -76,6 +76,12 @@ stepAt file number met =
     cond (eqb number 0) Ended
     (cond (leb number (recordsStored file) && ltb met (recordsStored file)) (Next (nextOf file number)) Broken)
 
+-- the number that a step leads to; 0 where it leads to none
+abbrev pub stepNext : Step → ℕ
+stepNext Ended = 0
+stepNext Broken = 0
+stepNext (Next number) = number
+
 abbrev pub walkAnswer : Walk → Count
 walkAnswer broken = Refused (record { number = 3 })
 walkAnswer (ends records) = Counted (length records)

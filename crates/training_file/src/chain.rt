@@ -1,6 +1,6 @@
 // The chain, walked over the borrowed file record by record: once to see that it ends, once to judge its records, and once
-// to write down its order. A walk that has met as many records as are stored and does not end has met one twice, so no
-// record needs a mark.
+// to write down its order. Each step is the walker's. A walk that has met as many records as are stored and does not end has
+// met one twice, so no record needs a mark.
 
 ghost use mathlib.Core.Path.{_≡_};
 ghost use Prim.Native.Nat.{min};
@@ -51,7 +51,8 @@ pub fn judge(file: &[u8], count: usize, used: usize) -> Count
             return Count::Refused(answer.refusal());
         };
         looked_up += label.looked_up();
-        number = record::next(file, number);
+        let step = walker::step_from(file, number, position);
+        number = step.next();
         position += 1;
     }
     Count::Counted(looked_up)
@@ -73,7 +74,8 @@ pub fn fill(file: &[u8], count: usize, table: &mut [u16])
     let mut position = 0;
     while position < places {
         table[position] = number as u16;
-        number = record::next(file, number);
+        let step = walker::step_from(file, number, position);
+        number = step.next();
         position += 1;
     }
 }

@@ -2,7 +2,7 @@
 
 ghost use mathlib.Core.Path.{_≡_};
 ghost use Rattle.training_file.specs.Layout.{firstRecord};
-ghost use Rattle.training_file.specs.Stages.{Holds, stepAt};
+ghost use Rattle.training_file.specs.Stages.{Holds, stepAt, stepNext};
 use super::bytes::u16_at;
 use super::layout;
 use super::record;
@@ -15,6 +15,19 @@ pub enum Step {
     Broken,
     // The number is a record's, and this is the record's next number.
     Next(usize),
+}
+
+impl Step {
+    // The number that the step leads to. A step that leads to none gives 0.
+    pub fn next(self) -> usize
+        ensures { λ n. ⌜ n ≡ stepNext self ⌝ }
+    {
+        match self {
+            Step::Ended => 0,
+            Step::Broken => 0,
+            Step::Next(next) => next,
+        }
+    }
 }
 
 // The number at which the chain starts.

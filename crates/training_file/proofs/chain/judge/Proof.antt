@@ -9,7 +9,7 @@ use Rattle.training_file.specs.declared.refusal.Count.the-variants.{Refu
 use Rattle.training_file.specs.declared.item.Label.the-variants.{LookedUp}
 use Rattle.training_file.specs.Item.{same}
 use Rattle.training_file.specs.Record.{Stored}
-use Rattle.training_file.specs.Stages.{judgeAnswer, labelRefusal, orderOf, recordAnswer}
+use Rattle.training_file.specs.Stages.{judgeAnswer, labelRefusal, orderOf, recordAnswer, stepNext}
 use Rattle.training_file.specs.ItemLaws.{same-most}
 use Rattle.training_file.specs.RecordLaws.{answer-known, answer-refused}
 use Rattle.training_file.specs.StageLaws.{judge-allowed, judge-none, judge-refused, order-first, order-next, order-stored}
@@ -72,8 +72,11 @@ looked-up-requires c κs = search needs
 add-looked-up : tie.Need-add-looked-up Inv-loop μ-loop
 add-looked-up c = let m = most c in omega arith
 
+step-from-requires : tie.Need-step-from-requires Inv-loop μ-loop
+step-from-requires c κs = search needs
+
 next-requires : tie.Need-next-requires Inv-loop μ-loop
-next-requires c κs = stored (c .before .before .before .before .before .before) (c .before .before .before .before .before .loop-test .taken)
+next-requires c κs = search needs
 
 add-position : tie.Need-add-position Inv-loop μ-loop
 add-position c = search needs
@@ -83,14 +86,15 @@ loop-less c = search needs
 
 loop-again : tie.Need-loop-again Inv-loop μ-loop
 loop-again c =
-    let m = most (c .before) in
-    let judged = c .before .before .before .before .before in
-    let allowed = answer-known _ _ _ _ (sym (answered judged) ∙ c .before .before .before .answer .given .1) in (
-      c .next .ensures ∙ order-next _ _ (judged .before .before .before .before .before .pre) _ _ (judged .before .loop-test .taken) (judged .before .before .loop .inv .0),
+    let counted = c .before .before in
+    let m = most counted in
+    let judged = counted .before .before .before .before in
+    let allowed = answer-known _ _ _ _ (sym (answered judged) ∙ counted .before .before .answer .given .1) in (
+      c .next .ensures ∙ ap stepNext (c .before .step-from .ensures) ∙ order-next _ _ (judged .before .before .before .before .before .pre) _ _ (judged .before .loop-test .taken) (judged .before .before .loop .inv .0),
       omega arith,
       omega arith,
       judged .before .before .loop .inv .3
-          ∙ judge-allowed _ _ _ _ _ _ (place judged) (allowed .0) (c .before .looked-up .ensures ∙ sym (ap (same LookedUp) (allowed .1))),
+          ∙ judge-allowed _ _ _ _ _ _ (place judged) (allowed .0) (counted .looked-up .ensures ∙ sym (ap (same LookedUp) (allowed .1))),
     )
 
 returns-2 : tie.Need-returns-2 Inv-loop μ-loop
@@ -115,6 +119,7 @@ judge-spec =
     returns
     looked-up-requires
     add-looked-up
+    step-from-requires
     next-requires
     add-position
     loop-less
