@@ -143,8 +143,9 @@ fn compare_classify(
 }
 
 fn draw_multipliers(problem: Option<&Problem>, trained: &[u32], random: &mut Random) -> Vec<u32> {
-    let Some(problem) = problem else {
-        return caller::any_multipliers(random);
+    let problem = match problem {
+        Some(problem) => problem,
+        None => return caller::any_multipliers(random),
     };
     match random.below(10) {
         0..=2 => trained.to_vec(),

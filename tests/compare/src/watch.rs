@@ -4,12 +4,16 @@
 use std::fmt::{self, Write};
 use std::sync::atomic::{AtomicU64, Ordering};
 
+pub const MOST_THREADS: usize = 64;
+
+/// What a place starts with; each place of the list gets its own.
+#[allow(clippy::declare_interior_mutable_const)]
+const NO_FILE: AtomicU64 = AtomicU64::new(0);
+
 /// The numbers of the files now compared, 0 for none: one place per thread.
 /// Statics, because a signal handler can reach nothing else.
-static AT_HAND: [AtomicU64; 64] = [const { AtomicU64::new(0) }; 64];
+static AT_HAND: [AtomicU64; MOST_THREADS] = [NO_FILE; MOST_THREADS];
 static SEED: AtomicU64 = AtomicU64::new(0);
-
-pub const MOST_THREADS: usize = AT_HAND.len();
 
 extern "C" {
     fn signal(number: i32, handler: extern "C" fn(i32)) -> usize;

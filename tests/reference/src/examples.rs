@@ -126,16 +126,7 @@ pub fn long_run() -> Draft {
 /// As many records as can be, all chained; the last leads to the record given
 /// instead of ending the chain.
 pub fn full_chain(last_next: u16) -> Vec<u8> {
-    let item = |k: usize| {
-        (
-            if k.is_multiple_of(2) {
-                LOOKED_UP
-            } else {
-                PASSED_OVER
-            },
-            vec![1],
-        )
-    };
+    let item = |k: usize| (if k % 2 == 0 { LOOKED_UP } else { PASSED_OVER }, vec![1]);
     let mut file = Draft {
         items: (0..MOST_RECORDS).map(item).collect(),
         ..p1()

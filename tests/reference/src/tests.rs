@@ -99,11 +99,7 @@ fn files_of_31_and_32_bytes() {
 fn alternating(n: usize) -> Draft {
     let item = |i: usize| {
         (
-            if i.is_multiple_of(2) {
-                LOOKED_UP
-            } else {
-                PASSED_OVER
-            },
+            if i % 2 == 0 { LOOKED_UP } else { PASSED_OVER },
             vec![(i % 7) as i8 - 3],
         )
     };

@@ -21,10 +21,10 @@ const NOISE: usize = 20;
 const EACH_CAUSE_OF_4: usize = 6;
 
 fn main() -> std::io::Result<()> {
-    let Some(folder) = std::env::args().nth(1) else {
+    let folder = std::env::args().nth(1).unwrap_or_else(|| {
         eprintln!("usage: vectors FOLDER");
-        std::process::exit(2);
-    };
+        std::process::exit(2)
+    });
     let files = files();
     let listings: Vec<String> = files.iter().map(|file| listing(file)).collect();
     let folder = Path::new(&folder);

@@ -51,7 +51,7 @@ impl Random {
     /// A number from 1 to highest whose size in bits is drawn first, so that
     /// small ones are as frequent as large ones.
     pub fn spread(&mut self, highest: u64) -> u64 {
-        let bits = self.below(u64::from(highest.ilog2()) + 1);
+        let bits = self.below(u64::from(u64::BITS - highest.leading_zeros()));
         let number = (1 << bits) + self.below(1 << bits);
         number.min(highest)
     }

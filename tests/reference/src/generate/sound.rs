@@ -33,11 +33,7 @@ fn heavy(random: &mut Random) -> Vec<u8> {
     let far = random.pick(&[LOOKED_UP, PASSED_OVER]);
     let others_lowest = random.pick(&[-1, 90]);
     let mut item = |k: usize| {
-        let label = if k.is_multiple_of(2) {
-            LOOKED_UP
-        } else {
-            PASSED_OVER
-        };
+        let label = if k % 2 == 0 { LOOKED_UP } else { PASSED_OVER };
         let (lowest, highest) = if label == far {
             (97, 100)
         } else {
@@ -297,8 +293,9 @@ pub fn tamed(file: Vec<u8>) -> Vec<u8> {
 }
 
 fn tamed_to(file: Vec<u8>, work: u64) -> Vec<u8> {
-    let Ok(mut problem) = read(&file) else {
-        return file;
+    let mut problem = match read(&file) {
+        Ok(problem) => problem,
+        Err(_) => return file,
     };
     let items = problem.items.len() as u64;
     let per_step = items * items + 4 * problem.parameters.ceiling as u64 + 50;
