@@ -98,23 +98,18 @@ module _ (c : tie.After-known-told3) where
       let past = c .before .before .before in
       sym (ap outcomeOf (reads-5 (file-4 past) (length-passed past) (header-passed past) _ (chain-passed past) (judged .0) b))
 
--- src/reader.rt:22:9
 count-records-requires : tie.Need-count-records-requires
 count-records-requires c κs = search needs
 
--- src/reader.rt:23:24
 enum-told : tie.Need-enum-told
 enum-told c = search needs
 
--- src/reader.rt:24:33
 enum-told-2 : tie.Need-enum-told-2
 enum-told-2 c = search needs
 
--- src/reader.rt:24:33
 refusal-requires : tie.Need-refusal-requires
 refusal-requires c κs = search needs
 
--- src/reader.rt:24:9
 returns : tie.Need-returns
 returns c =
     let answered = c .before .before .before .count-records .ensures in
@@ -122,23 +117,18 @@ returns c =
     let fails = if-refused (lengthAllowed bytes) 1 (recordsStored bytes) _ (sym answered ∙ c .before .enum-told2 .given .1) in
     ap Refused (c .refusal .ensures ∙ ap countRefusal answered ∙ (rw fails)) ∙ sym (ap outcomeOf (reads-1 bytes fails))
 
--- src/reader.rt:26:9
 read-parameters-requires : tie.Need-read-parameters-requires
 read-parameters-requires c κs = let h = holds c in omega arith
 
--- src/reader.rt:27:35
 enum-known-answer : tie.Need-enum-known-answer
 enum-known-answer c = search needs
 
--- src/reader.rt:28:33
 enum-told-3 : tie.Need-enum-told-3
 enum-told-3 c = search needs
 
--- src/reader.rt:28:33
 refusal-requires-2 : tie.Need-refusal-requires-2
 refusal-requires-2 c κs = search needs
 
--- src/reader.rt:28:9
 returns-2 : tie.Need-returns-2
 returns-2 c =
     let past = c .before .before .before .before in
@@ -147,23 +137,18 @@ returns-2 c =
     ap Refused (c .refusal2 .ensures ∙ ap parametersRefusal answered ∙ (rw fails))
     ∙ sym (ap outcomeOf (reads-2 (file past) (sized past) fails))
 
--- src/reader.rt:30:9
 walk-requires : tie.Need-walk-requires
 walk-requires c κs = holds (c .before .before .before .before)
 
--- src/reader.rt:31:24
 enum-known-walked : tie.Need-enum-known-walked
 enum-known-walked c = search needs
 
--- src/reader.rt:32:33
 enum-told-4 : tie.Need-enum-told-4
 enum-told-4 c = search needs
 
--- src/reader.rt:32:33
 refusal-requires-3 : tie.Need-refusal-requires-3
 refusal-requires-3 c κs = search needs
 
--- src/reader.rt:32:9
 returns-3 : tie.Need-returns-3
 returns-3 c =
     let past = c .before .before .before .before in
@@ -172,23 +157,18 @@ returns-3 c =
     ap Refused (c .refusal3 .ensures ∙ ap countRefusal (answered ∙ ap walkAnswer fails))
     ∙ sym (ap outcomeOf (reads-3 (file-2 past) (sized (past .before .before .before .before)) (header past .0) fails))
 
--- src/reader.rt:34:9
 judge-requires : tie.Need-judge-requires
 judge-requires c κs = chained c
 
--- src/reader.rt:35:24
 enum-known-judged : tie.Need-enum-known-judged
 enum-known-judged c = search needs
 
--- src/reader.rt:36:33
 enum-told-5 : tie.Need-enum-told-5
 enum-told-5 c = search needs
 
--- src/reader.rt:36:33
 refusal-requires-4 : tie.Need-refusal-requires-4
 refusal-requires-4 c κs = search needs
 
--- src/reader.rt:36:9
 returns-4 : tie.Need-returns-4
 returns-4 c =
     let past = c .before .before .before in
@@ -196,15 +176,12 @@ returns-4 c =
     ap Refused (c .refusal4 .ensures ∙ ap countRefusal (judging past) ∙ (rw fails))
     ∙ sym (ap outcomeOf (reads-4 (file-4 past) (length-passed past) (header-passed past) _ (chain-passed past) fails))
 
--- src/reader.rt:39:9
 returns-5 : tie.Need-returns-5
 returns-5 c = refused-5 (c .before) (labels-none _ (looked-up (c .before) ∙ c .if1 .taken))
 
--- src/reader.rt:44:9
 returns-6 : tie.Need-returns-6
 returns-6 c = refused-5 (c .before .before) (labels-all _ (looked-up (c .before .before) ∙ c .if2 .taken ∙ sym (counted (c .before .before))))
 
--- src/reader.rt:19:1
 returns-7 : tie.Need-returns-7
 returns-7 c =
     let done = c .before .before in

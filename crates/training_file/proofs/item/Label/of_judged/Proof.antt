@@ -2,11 +2,9 @@ use borrow.Author.Tests.{ne-eqb}
 use Rattle.training_file.proofs.item.Label.of_judged.Statement.{statement}
 use Rattle.training_file.proofs.item.Label.of_judged.Tie as tie
 
--- src/item.rt:52:5
 returns : tie.Need-returns
 returns c = rw (c .if1 .taken)
 
--- src/item.rt:52:5
 returns-2 : tie.Need-returns-2
 returns-2 c = rw (ne-eqb _ _ (c .if1 .left))
 

@@ -2,19 +2,15 @@ use borrow.Author.Needs.{needs}
 use Rattle.training_file.proofs.parameters.ParametersAnswer.refusal.Statement.{statement}
 use Rattle.training_file.proofs.parameters.ParametersAnswer.refusal.Tie as tie
 
--- src/parameters.rt:75:39
 enum-known-self : tie.Need-enum-known-self
 enum-known-self c = search needs
 
--- src/parameters.rt:76:45
 enum-told : tie.Need-enum-told
 enum-told c = search needs
 
--- src/parameters.rt:71:5
 returns : tie.Need-returns
 returns c = search needs
 
--- src/parameters.rt:71:5
 returns-2 : tie.Need-returns-2
 returns-2 c = cc
 

@@ -2,19 +2,15 @@ use borrow.Author.Needs.{needs}
 use Rattle.training_file.proofs.refusal.Count.refusal.Statement.{statement}
 use Rattle.training_file.proofs.refusal.Count.refusal.Tie as tie
 
--- src/refusal.rt:41:28
 enum-known-self : tie.Need-enum-known-self
 enum-known-self c = search needs
 
--- src/refusal.rt:42:34
 enum-told : tie.Need-enum-told
 enum-told c = search needs
 
--- src/refusal.rt:37:5
 returns : tie.Need-returns
 returns c = search needs
 
--- src/refusal.rt:37:5
 returns-2 : tie.Need-returns-2
 returns-2 c = cc
 
