@@ -49,10 +49,11 @@ fn put_training(file: &[u8], training: Training, multipliers: &[u32], out: &mut 
     }
 }
 
-// Reads and trains any file, and writes its listing into the buffer's first places; later places keep theirs. No listing is as long as
-// 4,096 bytes: line one has at most 76, and each of at most 256 items adds at most 14.
-pub fn list(file: &[u8], out: &mut [u8]) -> usize
-    requires { ⌜ 4096 ≤ length (now out) ⌝ }
+// No listing is longer: line one has at most 76 bytes, and each of at most 256 items adds at most 14.
+pub const PLACES: usize = 4_096;
+
+// Reads and trains any file, and writes its listing into the buffer's first places; later places keep theirs.
+pub fn list(file: &[u8], out: &mut [u8; PLACES]) -> usize
     ensures { λ r. ⌜ (r ≡ length (listingOf (reading (now (file .entry))))) × (now (out .exit) ≡ listingOf (reading (now (file .entry))) ++ drop r (now (out .entry))) ⌝ }
 {
     let mut multipliers = [0u32; 256];

@@ -60,7 +60,7 @@ fn main() {
         io::write_all(STDERR_FILENO, b"train: standard input cannot be read\n");
         return;
     };
-    let mut out = [0u8; 4096];
+    let mut out = [0u8; listing::list::PLACES];
     let end = listing::list::list(&file[..count], &mut out);
     if !io::write_all(STDOUT_FILENO, &out[..end]) {
         io::write_all(STDERR_FILENO, b"train: standard output cannot be written\n");

@@ -11,20 +11,13 @@ const MOST: u64 = 1_000;
 // No length of two bytes: the input has ended.
 const END: usize = 65_536;
 
-// The first places of a buffer, if it has so many.
-fn write_first(buffer: &[u8], count: usize) {
-    if count <= buffer.len() {
-        io::write_all(STDOUT_FILENO, &buffer[0..count]);
-    }
-}
-
 fn show(number: u64, file: &[u8]) {
-    let mut out = [0u8; 4096];
+    let mut out = [0u8; listing::list::PLACES];
     let count = listing::list::list(file, &mut out);
     io::write_all(STDOUT_FILENO, b"file ");
     io::print_decimal(STDOUT_FILENO, number);
     io::write_all(STDOUT_FILENO, b"\n");
-    write_first(&out, count);
+    io::write_all(STDOUT_FILENO, &out[..count]);
 }
 
 // Whether the input had enough bytes for all places.

@@ -9,7 +9,7 @@ use native.Mathlib.Omega.{arith}
 use borrow.Author.Tests.{le-leb}
 use lib.Dec.{leb}
 use lib.IntN.{ℤ, pos}
-use lib.ListN.{length, getD, length-append}
+use lib.ListN.{length, drop, getD, length-append}
 use Rattle.integers.specs.Test.{&&-true}
 use Rattle.integers.specs.Written.{written}
 use Rattle.integers.specs.Written.Laws.{written-at}
@@ -122,3 +122,7 @@ listing-fits file = by (reading file) refl
         (omega (arith, numbers-within file p order items a i (omega (arith, items-counted file p order items a)) .1))
         (omega (arith, sound .feasible .within i l, accepted-ranges file p order items a .ceiling-greatest)) in
         omega (arith, length-append (resultLine (trainedOf P o)) (joined (length items) (lineAt order items (at (o .multipliers)))), result-length (trainedOf P o), joined-length (length items) (lineAt order items (at (o .multipliers))) line, items-most file p order items a)
+
+-- a buffer that starts with a listing holds it whole
+pub listing-within : (file out after : List ℕ) (r : ℕ) → (r ≡ length (listingOf (reading file))) × (after ≡ listingOf (reading file) ++ drop r out) → r ≤ length after
+listing-within file out after r p = omega (arith, p .0, ap length (p .1), length-append (listingOf (reading file)) (drop r out))

@@ -1,9 +1,10 @@
 -- `train::main` meets its contract: the parts of both buffers that are lent lie within them. Assumes nothing.
-use mathlib.Core.Path.{sym, ap, subst}
+use mathlib.Core.Path.{sym, subst}
 use Prim.Native.Nat.{_≤_}
 use native.Mathlib.Omega.{arith}
-use lib.ListN.{length, length-append}
+use lib.ListN.{length}
 use lib.Seq.{length-take-le}
+use Rattle.listing.specs.Listing.Laws.{listing-within}
 use Rattle.train.specs.Input.{Within}
 use borrow.Author.Needs.{needs}
 use Rattle.train.proofs.main.Statement.{statement}
@@ -39,20 +40,14 @@ array-share-prefix-file c = file-fits c
 slice-aggregate-list : tie.Need-slice-aggregate-list
 slice-aggregate-list c = sym (length-take-le _ _ (file-fits (c .before)))
 
-slice-aggregate-list-2 : tie.Need-slice-aggregate-list-2
-slice-aggregate-list-2 c = search needs
-
 list-requires : tie.Need-list-requires
 list-requires c κs = search needs
 
-listing-within : (c : tie.After-list) → c .list .result ≤ length (c .list .last .1 .0)
-listing-within c = omega (arith, c .list .ensures .0, simp length-append at (ap length (c .list .ensures .1)))
-
 array-share-prefix-out : tie.Need-array-share-prefix-out
-array-share-prefix-out c = listing-within (c .before)
+array-share-prefix-out c = listing-within _ _ _ _ (c .list .ensures)
 
 slice-aggregate-write-all-2 : tie.Need-slice-aggregate-write-all-2
-slice-aggregate-write-all-2 c = sym (length-take-le _ _ (listing-within (c .before .before)))
+slice-aggregate-write-all-2 c = sym (length-take-le _ _ (listing-within _ _ _ _ (c .before .list .ensures)))
 
 write-all-requires-2 : tie.Need-write-all-requires-2
 write-all-requires-2 c κs = search needs
@@ -82,7 +77,6 @@ main-spec =
     returns
     array-share-prefix-file
     slice-aggregate-list
-    slice-aggregate-list-2
     list-requires
     array-share-prefix-out
     slice-aggregate-write-all-2

@@ -24,26 +24,24 @@ slice-aggregate-put-training : tie.Need-slice-aggregate-put-training
 slice-aggregate-put-training c = search needs
 
 -- the text is that of training's own answer and multipliers
-text-is : (c : tie.After-train) → listingIn (c .train .result) (c .before .before .before .before .before .args .file .now) (c .train .last .1 .0) ≡ listingOf (reading (c .before .before .before .before .before .args .file .now))
+text-is : (c : tie.After-train) → listingIn (c .train .result) (c .before .before .before .before .args .file .now) (c .train .last .1 .0) ≡ listingOf (reading (c .before .before .before .before .args .file .now))
 text-is c =
-    let r = reading (c .before .before .before .before .before .args .file .now) in
+    let r = reading (c .before .before .before .before .args .file .now) in
     (λ k. listing (c .train .ensures .0 k) (orderIn r) (itemsIn r) (at (c .train .ensures .1 .0 .0 k))) ∙ listing-trained r _ _ (items-few _) (items-few _)
 
 put-training-requires : tie.Need-put-training-requires
 put-training-requires c κs =
-    let s = c .before .before .before .before .before .before .before .before .before in
-    let f = s .args .file .now in (
-      omega (arith, items-few f, c .before .before .before .before .train .kept .1 .0),
-      room-as (sym (text-is (c .before .before .before .before))) (record { fits = omega (arith, listing-fits f, s .pre) }),
+    let trained = c .before .before .before .before in
+    let f = trained .before .before .before .before .args .file .now in (
+      omega (arith, items-few f, trained .train .kept .1 .0),
+      room-as (sym (text-is trained)) (record { fits = omega (arith, listing-fits f, c .put-training-arg .given .0 .1) }),
     )
-
-same-length : tie.Need-same-length
-same-length c = search needs
 
 returns : tie.Need-returns
 returns c =
-    let s = c .before .before .before .before .before .before .before .before .before .before .before .before in
-    put-all (omega (arith, listing-fits (s .args .file .now), s .pre)) (put-as (text-is (c .before .before .before .before .before .before .before)) (c .before .before .put-training .ensures))
+    let trained = c .before .before .before .before .before in
+    put-all (omega (arith, listing-fits (trained .before .before .before .before .args .file .now), c .before .put-training-arg .given .0 .1))
+    (put-as (text-is trained) (c .put-training .ensures))
 
 pub list-spec : {M : Type 1} → statement M
 list-spec =
@@ -54,5 +52,4 @@ list-spec =
     train-requires
     slice-aggregate-put-training
     put-training-requires
-    same-length
     returns)
