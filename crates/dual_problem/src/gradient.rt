@@ -5,7 +5,8 @@ ghost use Prim.Native.Nat.{_*_, _≤_, _<_};
 ghost use lib.ListN.{length};
 ghost use lib.IntN.{pos, natAbs, _*ℤ_};
 ghost use Rattle.dual_problem.specs.Kernel.{largest-kernel};
-ghost use Rattle.dual_problem.specs.Problem.{gradient as gradientOf, sign};
+ghost use Rattle.dual_problem.specs.Problem.{gradient as gradientOf, sign, y};
+ghost use Rattle.training_file.specs.Calls.{Tabled};
 ghost use Rattle.integers.specs.Written.{written};
 ghost use Rattle.dual_problem.specs.Items.{Prepared, at, kernelWith, largest-gradient, problem-of, weighedSum};
 use super::kernel::kernel_value;
@@ -23,6 +24,26 @@ fn term(multiplier: u32, label: Label, kernel: i64) -> i64
     signed(multiplier, label) * kernel
 }
 
+// What the item at a place adds to the weighed sum. One with multiplier 0 adds nothing, and isn't fetched.
+fn addend(
+    file: &[u8],
+    order: &[u16],
+    parameters: Parameters,
+    multiplier: u32,
+    x: Item,
+    place: usize,
+) -> i64
+    requires { ⌜ Tabled (now file) (now order) place × (multiplier ≤ 65536) × (parameters .features ≤ 16) ⌝ }
+    ensures { λ r. ⌜ (r ≡ pos multiplier *ℤ y (problem-of (now (file .entry)) parameters) place *ℤ kernelWith (now (file .entry)) parameters (x .features) place) × (natAbs r ≤ 65536 * largest-kernel 16 128) ⌝ }
+{
+    if multiplier == 0 {
+        return 0;
+    }
+    let z = fetch(file, order, place);
+    let label = z.label;
+    term(multiplier, label, kernel_value(parameters, x, z))
+}
+
 // The kernel values of an item with each item of the file, weighed with the multipliers and the labels' signs.
 pub fn weighed_sum(
     file: &[u8],
@@ -38,9 +59,7 @@ pub fn weighed_sum(
     let mut sum: i64 = 0;
     let mut j = 0;
     while j < count {
-        let z = fetch(file, order, j);
-        let label = z.label;
-        sum += term(multipliers[j], label, kernel_value(parameters, x, z));
+        sum += addend(file, order, parameters, multipliers[j], x, j);
         j += 1;
     }
     sum

@@ -1,7 +1,6 @@
 // The up set, the low set, and where the two thresholds are attained (document 01, "Grid definitions").
 
 ghost use mathlib.Core.Path.{_≡_};
-ghost use mathlib.Core.Bool.{cond};
 ghost use Prim.Native.Nat.{_≤_};
 ghost use lib.IntN.{pos};
 ghost use lib.ListN.{length, getD};
@@ -54,21 +53,14 @@ impl Best {
     fn beside(self, place: usize, value: i64, least: bool) -> Best
         ensures { λ r. ⌜ r ≡ bestBeside self place value least ⌝ }
     {
-        let Best::At(_, best) = self else {
+        let Best::At(at, best) = self else {
             return Best::At(place, value);
         };
         let better = if least { value < best } else { best < value };
-        if better { Best::At(place, value) } else { self }
-    }
-
-    // The same where the place is in the set, and this alone where it is not.
-    fn beside_member(self, member: bool, place: usize, value: i64, least: bool) -> Best
-        ensures { λ r. ⌜ r ≡ cond member (bestBeside self place value least) self ⌝ }
-    {
-        if member {
-            self.beside(place, value, least)
+        if better {
+            Best::At(place, value)
         } else {
-            self
+            Best::At(at, best)
         }
     }
 }
@@ -100,8 +92,12 @@ pub fn find_extremes(
         let most = ceiling(parameters, label);
         let multiplier = multipliers[i];
         let value = gradient[i];
-        low = low.beside_member(in_low(label, multiplier, most), i, value, false);
-        up = up.beside_member(in_up(label, multiplier, most), i, value, true);
+        if in_low(label, multiplier, most) {
+            low = low.beside(i, value, false);
+        }
+        if in_up(label, multiplier, most) {
+            up = up.beside(i, value, true);
+        }
         i += 1;
     }
     Extremes { low, up }

@@ -1,4 +1,5 @@
-// The public calls: a training file of any length and content is read, or refused with a number.
+// The public calls: a training file of any length and content is read, or refused with a number. `fetch` is for the crates above,
+// which have read the file.
 
 ghost use mathlib.Core.Path.{_≡_};
 ghost use Rattle.training_file.specs.Reading.{reading};

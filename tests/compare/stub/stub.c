@@ -31,8 +31,9 @@ static uint64_t field(const uint8_t *p, int width) {
 }
 
 static int64_t kernel(const Problem *p, const int8_t *u, const int8_t *v) {
-    int64_t sum = 0;
-    for (int k = 0; k < p->d - WRONG(42) * (p->d > 15); k++) sum += u[k] * v[k];
+    int products = 0;
+    for (int k = 0; k < p->d - WRONG(42) * (p->d > 15); k++) products += u[k] * v[k];
+    int64_t sum = products;
     if (p->kernel == 0) return sum;
     if (WRONG(15)) return sum * sum;
     sum += 1;
@@ -112,7 +113,8 @@ static void set_thresholds(Problem *p) {
 static void set_gradient(Problem *p) {
     for (int i = 0; i < p->n; i++) {
         p->G[i] = -p->S * p->y[i];
-        for (int j = 0; j < p->n; j++) p->G[i] += p->a[j] * p->y[j] * kernel(p, p->x[i], p->x[j]);
+        for (int j = 0; j < p->n; j++)
+            if (p->a[j] != 0) p->G[i] += p->a[j] * p->y[j] * kernel(p, p->x[i], p->x[j]);
         if (WRONG(49)) p->G[i] = (int32_t)(uint32_t)p->G[i];
         if (WRONG(88)) p->G[i] = (int64_t)(double)p->G[i];
     }
@@ -123,8 +125,10 @@ static int64_t eta(const Problem *p, int i, int j) {
 }
 
 static int moves(const Problem *p, int i, int j) {
-    int64_t g = p->G[i] - p->G[j], e = eta(p, i, j);
-    if (i == j || (WRONG(5) && e == 0)) return 0;
+    int64_t g = p->G[i] - p->G[j];
+    if (g <= 0) return 0;
+    int64_t e = eta(p, i, j);
+    if (WRONG(5) && e == 0) return 0;
     if (WRONG(51)) return g > e;
     return WRONG(14) ? g > 0 && 2 * g >= e : 2 * g > e;
 }

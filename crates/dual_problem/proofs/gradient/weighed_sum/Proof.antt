@@ -8,8 +8,8 @@ use mir.Syntax.{w64}
 use mir.Val.{toZ, ofZ}
 use Rattle.integers.specs.Bounds.{+ℤ-bound, fits-width, reads-back, reads-as}
 use Rattle.integers.specs.Sum.{sum}
-use Rattle.dual_problem.specs.Kernel.{kernelValue, largest-kernel}
-use Rattle.dual_problem.specs.Problem.{Problem, sign, y}
+use Rattle.dual_problem.specs.Kernel.{largest-kernel}
+use Rattle.dual_problem.specs.Problem.{Problem, y}
 use Rattle.dual_problem.specs.Items.{at, kernelWith, problem-of, weighedSum}
 use Rattle.dual_problem.proofs.gradient.weighed_sum.Statement.{statement}
 use Rattle.dual_problem.proofs.gradient.weighed_sum.Tie as tie
@@ -39,60 +39,43 @@ a s = at (s .args .multipliers .now)
 abbrev k : tie.Start Inv-loop μ-loop → ℕ → ℤ
 k s = kernelWith (s .args .file .now) (s .args .parameters) (s .args .x .features)
 
--- a kernel value's bits read back
-kernel-reads : (k : ℤ) → natAbs k ≤ largest-kernel 16 128 → toZ w64 (ofZ w64 k) ≡ k
-kernel-reads k h = reads-back w64 refl (omega arith)
-
 loop-holds : tie.Need-loop-holds Inv-loop μ-loop
 unfolding sum
 loop-holds c = (omega arith, refl, omega arith)
 
-fetch-requires : tie.Need-fetch-requires Inv-loop μ-loop
-fetch-requires c κs = let p = c .before .before .before .before .before .pre in p .table .tabled _ (c .loop-test .taken)
+mul-addend : tie.Need-mul-addend Inv-loop μ-loop
+mul-addend c = omega (arith, c .before .before .before .before .before .pre .table .few)
 
-mul-term : tie.Need-mul-term Inv-loop μ-loop
-mul-term c = omega (arith, c .before .before .before .before .before .before .pre .table .few)
+shared-slice-read-addend : tie.Need-shared-slice-read-addend Inv-loop μ-loop
+shared-slice-read-addend c = omega (arith, c .before .before .before .before .before .before .pre .long)
 
-shared-slice-read-term : tie.Need-shared-slice-read-term Inv-loop μ-loop
-shared-slice-read-term c = omega (arith, c .before .before .before .before .before .before .before .pre .long)
+addend-requires : tie.Need-addend-requires Inv-loop μ-loop
+addend-requires c κs =
+    let p = c .before .before .before .before .before .before .pre in
+    let l = c .before .loop-test .taken in
+    (p .table .tabled _ l, p .small _ l, p .used)
 
-kernel-value-requires : tie.Need-kernel-value-requires Inv-loop μ-loop
-kernel-value-requires c κs = c .before .before .before .before .before .before .before .pre .used
-
-term-requires : tie.Need-term-requires Inv-loop μ-loop
-term-requires c κs = (
-  c .before .before .before .before .before .before .before .before .pre .small _ (c .before .before .before .loop-test .taken),
-  subst (λ z. natAbs z ≤ largest-kernel 16 128) (sym (kernel-reads (c .kernel-value .result) (c .kernel-value .ensures .1))) (c .kernel-value .ensures .1),
-)
-
-module _ (c : tie.After-term Inv-loop μ-loop) where
+module _ (c : tie.After-addend Inv-loop μ-loop) where
   s : tie.Start Inv-loop μ-loop
-  s = c .before .before .before .before .before .before .before .before .before
+  s = c .before .before .before .before .before .before .before
 
   j : ℕ
-  j = c .before .before .before .before .before .loop .j
-
-  added-is : c .term .result ≡ added (P s) (a s) (k s) j
-  unfolding s j
-  added-is =
-      let z = c .before .before .before .fetch .ensures in
-      c .term .ensures .0
-      ∙ (λ i. pos (a s j) *ℤ sign (z i .label) *ℤ kernel-reads (c .before .kernel-value .result) (c .before .kernel-value .ensures .1) i)
-      ∙ (λ i. pos (a s j) *ℤ y (P s) j *ℤ (c .before .kernel-value .ensures .0 ∙ (λ i. kernelValue (s .args .parameters .kernel) (s .args .parameters .features) (s .args .x .features) (z i .features))) i)
+  j = c .before .before .before .loop .j
 
   added-size : natAbs (added (P s) (a s) (k s) j) ≤ 65536 * largest-kernel 16 128
-  added-size = subst (λ z. natAbs z ≤ 65536 * largest-kernel 16 128) added-is (c .term .ensures .1)
+  unfolding s j
+  added-size = subst (λ z. natAbs z ≤ 65536 * largest-kernel 16 128) (c .addend .ensures .0) (c .addend .ensures .1)
 
   next-size : natAbs (row (P s) (a s) (k s) (j + 1)) ≤ (j + 1) * (65536 * largest-kernel 16 128)
   unfolding s j sum
-  next-size = rw add-one (omega (arith, +ℤ-bound (row (P s) (a s) (k s) j) (added (P s) (a s) (k s) j) (c .before .before .before .before .before .loop .inv .2) added-size))
+  next-size = rw add-one (omega (arith, +ℤ-bound (row (P s) (a s) (k s) j) (added (P s) (a s) (k s) j) (c .before .before .before .loop .inv .2) added-size))
 
-  next-is : toZ w64 (c .before .before .before .before .before .loop .sum) +ℤ toZ w64 (ofZ w64 (c .term .result)) ≡ row (P s) (a s) (k s) (j + 1)
+  next-is : toZ w64 (c .before .before .before .loop .sum) +ℤ toZ w64 (ofZ w64 (c .addend .result)) ≡ row (P s) (a s) (k s) (j + 1)
   unfolding s j sum
   next-is =
       rw add-one
-      (λ i. reads-as w64 (row (P s) (a s) (k s) j) (c .before .before .before .before .before .loop .inv .1) (omega (arith, c .before .before .before .before .before .loop .inv .2, s .pre .table .few)) i
-      +ℤ reads-back w64 added-is (omega (arith, added-size)) i)
+      (λ i. reads-as w64 (row (P s) (a s) (k s) j) (c .before .before .before .loop .inv .1) (omega (arith, c .before .before .before .loop .inv .2, s .pre .table .few)) i
+      +ℤ reads-back w64 (c .addend .ensures .0) (omega (arith, added-size)) i)
 
 add-sum : tie.Need-add-sum Inv-loop μ-loop
 unfolding s j
@@ -124,11 +107,9 @@ weighed-sum-spec =
     Inv-loop
     μ-loop
     loop-holds
-    fetch-requires
-    mul-term
-    shared-slice-read-term
-    kernel-value-requires
-    term-requires
+    mul-addend
+    shared-slice-read-addend
+    addend-requires
     add-sum
     add-j
     loop-less

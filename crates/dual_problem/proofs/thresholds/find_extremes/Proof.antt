@@ -1,7 +1,8 @@
 -- `dual_problem::thresholds::find_extremes` meets its contract. The loop's invariant: `low` and `up` are the places of the first i that
 -- attain the thresholds. Assumes nothing.
 use mathlib.Core.List.{List}
-use mathlib.Core.Path.{_≡_, refl, _∙_, ap}
+use mathlib.Core.Path.{_≡_, refl, sym, _∙_, ap}
+use mathlib.Core.Logic.{_⊎_, inl, inr, ⊎-elim}
 use mathlib.Core.Option.{Option}
 use mathlib.Core.Bool.{Bool, true, false, cond}
 use Prim.Native.Nat.{ℕ, _-_, _≤_}
@@ -60,14 +61,14 @@ shared-slice-copy-out-value c = omega (arith, c .before .before .before .before 
 in-low-requires : tie.Need-in-low-requires Inv-loop μ-loop
 in-low-requires c κs = search needs
 
-beside-member-requires : tie.Need-beside-member-requires Inv-loop μ-loop
-beside-member-requires c κs = search needs
+beside-requires : tie.Need-beside-requires Inv-loop μ-loop
+beside-requires c κs = search needs
 
 in-up-requires : tie.Need-in-up-requires Inv-loop μ-loop
 in-up-requires c κs = search needs
 
-beside-member-requires-2 : tie.Need-beside-member-requires-2 Inv-loop μ-loop
-beside-member-requires-2 c κs = search needs
+beside-requires-2 : tie.Need-beside-requires-2 Inv-loop μ-loop
+beside-requires-2 c κs = search needs
 
 add-i : tie.Need-add-i Inv-loop μ-loop
 add-i c = omega arith
@@ -75,10 +76,12 @@ add-i c = omega arith
 loop-less : tie.Need-loop-less Inv-loop μ-loop
 loop-less c = omega arith
 
--- one turn for either set
+-- one turn for either set: r is what became of self
 turn : (least : Bool) (f : ℕ → ℤ) (found : Option ℕ) (i : ℕ) {self r : Best} {member t : Bool} {v : ℤ}
-    → r ≡ cond member (bestBeside self i v least) self → member ≡ t → self ≡ bestOf f found → v ≡ f i → r ≡ bestOf f (beside (comes-first least) f found i t)
-turn least f found i {t} e m b w = e ∙ (λ k. cond (m k) (bestBeside (b k) i (w k) least) (b k)) ∙ best-beside least f found i t
+    → ((member ≡ true) × (r ≡ bestBeside self i v least)) ⊎ ((member ≡ false) × (r ≡ self)) → member ≡ t → self ≡ bestOf f found → v ≡ f i → r ≡ bestOf f (beside (comes-first least) f found i t)
+turn least f found i {self} {r} {member} {t} {v} came m b w =
+    ⊎-elim (λ x. x .1 ∙ ap (λ z. cond z (bestBeside self i v least) self) (sym (x .0))) (λ x. x .1 ∙ ap (λ z. cond z (bestBeside self i v least) self) (sym (x .0))) came
+    ∙ (λ k. cond (m k) (bestBeside (b k) i (w k) least) (b k)) ∙ best-beside least f found i t
 
 module _ (c : tie.After-value Inv-loop μ-loop) where
   s : tie.Start Inv-loop μ-loop
@@ -112,10 +115,12 @@ loop-again c =
     let inv = d .before .before .before .before .before .loop .inv in (
       omega arith,
       rw add-one
-          (turn false (g d) (extreme (comes-first false) (i d) (low (P d) (at (s d .args .multipliers .now))) (g d)) (i d) (c .before .before .beside-member .ensures)
+          (turn false (g d) (extreme (comes-first false) (i d) (low (P d) (at (s d .args .multipliers .now))) (g d)) (i d)
+          (⊎-elim (λ w. inl (w .0 .taken, w .2 ∙ w .1 .ensures)) (λ w. inr (w .0 .left, w .1)) (c .before .before .if1 .came))
           (c .before .before .before .in-low .ensures ∙ (λ k. in-low (label-is d k) (at (s d .args .multipliers .now) (i d)) (ceiling-is d k))) (inv .1) (value-is d)),
       rw add-one
-          (turn true (g d) (extreme (comes-first true) (i d) (up (P d) (at (s d .args .multipliers .now))) (g d)) (i d) (c .beside-member2 .ensures)
+          (turn true (g d) (extreme (comes-first true) (i d) (up (P d) (at (s d .args .multipliers .now))) (g d)) (i d)
+          (⊎-elim (λ w. inl (w .0 .taken, w .2 ∙ w .1 .ensures)) (λ w. inr (w .0 .left, w .1)) (c .if2 .came))
           (c .before .in-up .ensures ∙ (λ k. in-up (label-is d k) (at (s d .args .multipliers .now) (i d)) (ceiling-is d k))) (inv .2) (value-is d)),
     )
 
@@ -145,9 +150,9 @@ find-extremes-spec =
     mul-value
     shared-slice-copy-out-value
     in-low-requires
-    beside-member-requires
+    beside-requires
     in-up-requires
-    beside-member-requires-2
+    beside-requires-2
     add-i
     loop-less
     loop-again

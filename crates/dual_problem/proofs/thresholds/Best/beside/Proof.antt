@@ -59,7 +59,7 @@ returns-2 c = (λ i. At (s (c .before) .args .place) (toZ-ofZ (s (c .before) .fi
 
 returns-3 : tie.Need-returns-3
 unfolding s k v
-returns-3 c = sym (chosen (c .before) (c .if2 .left))
+returns-3 c = (λ i. At (k (c .before)) (v-reads (c .before) i)) ∙ sym (chosen (c .before) (c .if2 .left))
 
 pub beside-spec : {M : Type 1} → statement M
 beside-spec = tie.close (tie.spec enum-known-self enum-told returns returns-2 returns-3)
