@@ -49,7 +49,8 @@ impl Best {
         }
     }
 
-    // The better of this and one place more; of equals the one found first stays.
+    // The better of this and one place more; of equals the one found first stays, put together anew: a copy of the whole enum would
+    // carry the bytes between its parts through memory at each turn of the search.
     fn beside(self, place: usize, value: i64, least: bool) -> Best
         ensures { λ r. ⌜ r ≡ bestBeside self place value least ⌝ }
     {

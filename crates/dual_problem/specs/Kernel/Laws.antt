@@ -1,12 +1,14 @@
 -- What the kernels share, that the values of each are a Gram form, and how large a value can be, over the largest feature. Assumes
 -- nothing.
-use mathlib.Core.Path.{_≡_, refl, ap}
+use mathlib.Core.Path.{_≡_, refl, sym, ap, subst}
 use mathlib.Core.List.{List}
 use Prim.Native.Nat.{ℕ, _+_, _≤_, _<_}
 use native.Mathlib.Omega.{arith}
 use lib.IntN.{ℤ, pos, natAbs, _+ℤ_, _*ℤ_, *ℤ-comm}
 use lib.ListN.{getD}
-use Rattle.integers.specs.Bounds.{+ℤ-bound, *ℤ-bound, sum-bound}
+use mir.Syntax.{w64}
+use mir.Val.{toZ, ofZ}
+use Rattle.integers.specs.Bounds.{+ℤ-bound, *ℤ-bound, sum-bound, reads-back}
 use Rattle.integers.specs.Sum.{sum}
 use Rattle.integers.specs.Gram.{Gram}
 use Rattle.integers.specs.Gram.Laws.{gram-one, gram-+, gram-*}
@@ -57,3 +59,11 @@ module _ (F d : ℕ) (xs zs : List ℤ) (x-within : (p : ℕ) → p < d → natA
   pub kernel-bound : (k : Kernel) → natAbs (kernelValue k d xs zs) ≤ largest-kernel d F
   kernel-bound Linear = omega (arith, linear-bound)
   kernel-bound Square = square-bound
+
+-- ---- a kernel value as a signed number of 64 bits
+-- its bits read back
+pub kernel-reads : (k : ℤ) → natAbs k ≤ largest-kernel 16 128 → toZ w64 (ofZ w64 k) ≡ k
+kernel-reads k h = reads-back w64 refl (omega arith)
+
+pub kernel-sized : (k : ℤ) → natAbs k ≤ largest-kernel 16 128 → natAbs (toZ w64 (ofZ w64 k)) ≤ largest-kernel 16 128
+kernel-sized k h = subst (λ z. natAbs z ≤ largest-kernel 16 128) (sym (kernel-reads k h)) h

@@ -1,20 +1,16 @@
 -- `dual_problem::gradient::addend` meets its contract: a multiplier of 0 times anything is 0. Assumes nothing.
-use mathlib.Core.Path.{_≡_, refl, sym, _∙_, ap, subst}
+use mathlib.Core.Path.{_≡_, sym, _∙_, ap, subst}
 use Prim.Native.Nat.{_*_, _≤_}
 use native.Mathlib.Omega.{arith}
 use lib.IntN.{ℤ, pos, natAbs, _*ℤ_, zero-*ℤ}
 use mir.Syntax.{w64}
-use mir.Val.{toZ, ofZ}
 use Rattle.integers.specs.Bounds.{reads-back}
 use Rattle.dual_problem.specs.Kernel.{kernelValue, largest-kernel}
+use Rattle.dual_problem.specs.Kernel.Laws.{kernel-reads, kernel-sized}
 use Rattle.dual_problem.specs.Problem.{sign, y}
 use Rattle.dual_problem.specs.Items.{kernelWith, problem-of}
 use Rattle.dual_problem.proofs.gradient.addend.Statement.{statement}
 use Rattle.dual_problem.proofs.gradient.addend.Tie as tie
-
--- a kernel value's bits read back
-kernel-reads : (k : ℤ) → natAbs k ≤ largest-kernel 16 128 → toZ w64 (ofZ w64 k) ≡ k
-kernel-reads k h = reads-back w64 refl (omega arith)
 
 returns : tie.Need-returns
 returns c =
@@ -30,10 +26,7 @@ kernel-value-requires : tie.Need-kernel-value-requires
 kernel-value-requires c κs = c .before .before .before .before .pre .2
 
 term-requires : tie.Need-term-requires
-term-requires c κs = (
-  c .before .before .before .before .before .pre .1,
-  subst (λ z. natAbs z ≤ largest-kernel 16 128) (sym (kernel-reads (c .kernel-value .result) (c .kernel-value .ensures .1))) (c .kernel-value .ensures .1),
-)
+term-requires c κs = (c .before .before .before .before .before .pre .1, kernel-sized (c .kernel-value .result) (c .kernel-value .ensures .1))
 
 module _ (c : tie.After-term) where
   s : tie.Start

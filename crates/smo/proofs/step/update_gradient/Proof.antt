@@ -16,6 +16,7 @@ use Rattle.training_file.specs.declared.item.Item.{Item}
 use Rattle.training_file.specs.Reading.{reading}
 use Rattle.training_file.specs.Calls.{itemsIn, itemIn}
 use Rattle.dual_problem.specs.Kernel.{largest-kernel}
+use Rattle.dual_problem.specs.Kernel.Laws.{kernel-reads, kernel-sized}
 use Rattle.dual_problem.specs.Items.{largest-gradient}
 use Rattle.smo.specs.Curvature.{kernelBetween}
 use Rattle.smo.specs.Update.{shifted, updated}
@@ -32,13 +33,6 @@ abbrev μ-loop : tie.MeasureT-loop
 -- the new G of the call
 abbrev new : tie.Start Inv-loop μ-loop → ℕ → ℤ
 new s = updated (s .args .parameters) (itemsIn (reading (s .args .file .now))) (s .args .x) (s .args .z) (s .args .amount) (s .args .gradient .now)
-
--- a kernel value's bits read back
-kernel-reads : (k : ℤ) → natAbs k ≤ largest-kernel 16 128 → toZ w64 (ofZ w64 k) ≡ k
-kernel-reads k h = reads-back w64 refl (omega arith)
-
-kernel-sized : (k : ℤ) → natAbs k ≤ largest-kernel 16 128 → natAbs (toZ w64 (ofZ w64 k)) ≤ largest-kernel 16 128
-kernel-sized k h = subst (λ z. natAbs z ≤ largest-kernel 16 128) (sym (kernel-reads k h)) h
 
 loop-holds : tie.Need-loop-holds Inv-loop μ-loop
 unfolding written
