@@ -1,7 +1,9 @@
-"""Writes training files at random, with one or more faults or none, and what a reader of document 01 makes of each.
+"""Writes training files and what a reader of document 01 makes of each, for crates/reading_test: its stdin and its stdout.
 
-The reader below is written from document 01 alone. It is the other implementation that crates/reading_random_test is held
-to: its stdin holds the files, each after its length in two bytes, and its stdout what each is read as.
+First come document 01's edge cases, each with a name, most of them one change to its sample; then files drawn at random, with one
+or more faults or none. The reader below is written from document 01 alone: it is the other implementation that the library's is
+held to. The stdin has an entry for each file: the length of its name in one byte and the name; in two bytes, least first, how many
+places of an order table are lent; its length in two bytes, and its bytes.
 Run it in the repository's folder: python3 tools/training_files.py
 """
 
@@ -10,21 +12,22 @@ import struct
 
 
 def read(file):
+    """The answer, and the record numbers in chain order, none where the file is refused."""
     if len(file) < 32:
-        return "refused 1"
+        return "refused 1", []
     m, first, d, kernel, spare = struct.unpack_from("<HHBBH", file, 0)
     grid, ceiling, tolerance, budget, spare_end = struct.unpack_from("<IIQII", file, 8)
     if m > 256 or len(file) != 32 + 20 * m:
-        return "refused 1"
+        return "refused 1", []
     if first > m or not 1 <= d <= 16 or kernel > 1 or spare or spare_end:
-        return "refused 2"
+        return "refused 2", []
     if not 1 <= grid <= 1048576 or not 1 <= ceiling <= 65536 or tolerance > 10**12 or budget > 1000000:
-        return "refused 2"
+        return "refused 2", []
     met = []
     number = first
     while number:
         if number > m or number in met:
-            return "refused 3"
+            return "refused 3", []
         met.append(number)
         (number,) = struct.unpack_from("<H", file, 32 + 20 * (number - 1))
     labels = set()
@@ -33,11 +36,102 @@ def read(file):
         label, zero = file[at + 2], file[at + 3]
         features = struct.unpack_from("<16b", file, at + 4)
         if label not in (1, 2) or zero or any(not -100 <= f <= 100 for f in features) or any(features[d:]):
-            return "refused 4"
+            return "refused 4", []
         labels.add(label)
     if len(labels) < 2:
-        return "refused 5"
-    return "accepted %d: %s" % (len(met), " ".join(map(str, met)))
+        return "refused 5", []
+    return "accepted %d" % len(met), met
+
+
+def header(m, first):
+    """d 1, linear, S 10, c 100, t 0, budget 50."""
+    return struct.pack("<HHBBHIIQII", m, first, 1, 0, 0, 10, 100, 0, 50, 0)
+
+
+def record(follows, label, feature):
+    return struct.pack("<HBBB15x", follows, label, 0, feature % 256)
+
+
+def chain(m):
+    """Records 1 to m, chained in that order, looked up and passed over in turn."""
+    records = [record(number + 1, 1 + number % 2, 0) for number in range(1, m)]
+    return header(m, 1) + b"".join(records) + record(0, 1, 0)
+
+
+# Document 01's sample: record 3 is looked up with feature 1, then record 1 passed over with feature -1. Record 2 is spare and
+# holds bytes that a record on the chain may not.
+SAMPLE = header(3, 3) + record(0, 2, -1) + record(200, 7, 200) + record(1, 1, 1)
+
+# Where the fields are in a file, the records in the sample, and the fields in a record.
+M, FIRST, D, KERNEL, SPARE, S, C, T, BUDGET, SPARE_END = 0, 2, 4, 5, 6, 8, 12, 16, 24, 28
+RECORD_1, RECORD_3 = 32, 72
+NEXT, LABEL, ZERO, FEATURE = 0, 2, 3, 4
+
+
+def put(at, value, width=1, file=SAMPLE):
+    """The file with a number of so many bytes put there."""
+    return file[:at] + (value % 256**width).to_bytes(width, "little") + file[at + width :]
+
+
+EDGE_CASES = [
+    ("no bytes", SAMPLE[:0]),
+    ("31 bytes", SAMPLE[:31]),
+    ("32 bytes, m 3", SAMPLE[:32]),
+    ("91 bytes, m 3", SAMPLE[:91]),
+    ("93 bytes, m 3", SAMPLE + b"\0"),
+    ("m 2", put(M, 2)),
+    ("32 bytes, m 0", header(0, 0)),
+    ("first record 4", put(FIRST, 4)),
+    ("d 0", put(D, 0)),
+    ("d 16", put(D, 16)),
+    ("d 17", put(D, 17)),
+    ("kernel 1", put(KERNEL, 1)),
+    ("kernel 2", put(KERNEL, 2)),
+    ("spare byte 6", put(SPARE, 1)),
+    ("spare byte 7", put(SPARE + 1, 1)),
+    ("spare byte 28", put(SPARE_END, 1)),
+    ("spare byte 31", put(SPARE_END + 3, 1)),
+    ("S 0", put(S, 0, 4)),
+    ("S 1048576", put(S, 1048576, 4)),
+    ("S 1048577", put(S, 1048577, 4)),
+    ("c 0", put(C, 0, 4)),
+    ("c 65536", put(C, 65536, 4)),
+    ("c 65537", put(C, 65537, 4)),
+    ("t 1000000000000", put(T, 10**12, 8)),
+    ("t 1000000000001", put(T, 10**12 + 1, 8)),
+    ("budget 1000000", put(BUDGET, 1000000, 4)),
+    ("budget 1000001", put(BUDGET, 1000001, 4)),
+    ("next 4, m 3", put(RECORD_3 + NEXT, 4, 2)),
+    ("next 257, m 3", put(RECORD_3 + NEXT, 257, 2)),
+    ("a record its own next", put(RECORD_3 + NEXT, 3, 2)),
+    ("two records in a ring", put(RECORD_1 + NEXT, 3, 2)),
+    ("a ring, and a wrong label", put(RECORD_3, 0x01090003, 4)),
+    ("the spare record next", put(RECORD_3 + NEXT, 2, 2)),
+    ("label 0", put(RECORD_3 + LABEL, 0)),
+    ("label 3", put(RECORD_1 + LABEL, 3)),
+    ("byte 3 not 0", put(RECORD_3 + ZERO, 1)),
+    ("feature 100", put(RECORD_3 + FEATURE, 100)),
+    ("feature 101", put(RECORD_3 + FEATURE, 101)),
+    ("feature -100", put(RECORD_3 + FEATURE, -100)),
+    ("feature -101", put(RECORD_3 + FEATURE, -101)),
+    ("feature -128", put(RECORD_3 + FEATURE, -128)),
+    ("feature 2 past d 1", put(RECORD_3 + FEATURE + 1, 1)),
+    ("feature 16 past d 1", put(RECORD_3 + FEATURE + 15, -1)),
+    ("all looked up", put(RECORD_1 + LABEL, 1)),
+    ("all passed over", put(RECORD_3 + LABEL, 2)),
+    ("an empty chain", put(FIRST, 0)),
+    ("m 256, n 256", chain(256)),
+    ("m 256, the last record's next the first", put(32 + 20 * 255 + NEXT, 1, 2, chain(256))),
+    ("m 257", chain(257)),
+]
+
+# With how many places of the order table are lent.
+TABLE_CASES = [
+    ("a table of 4", SAMPLE, 4),
+    ("a table of 1", SAMPLE, 1),
+    ("no table", SAMPLE, 0),
+    ("a table of 4, refused", put(RECORD_3 + ZERO, 1), 4),
+]
 
 
 def draw(pick):
@@ -79,21 +173,37 @@ def draw(pick):
     return bytes(file)
 
 
-def main():
+def draw_all():
+    """As many files as fit into 65,536 bytes, each with its length in two bytes."""
     pick = random.Random(2026)
-    data = b""
-    answers = []
+    files = []
+    left = 65536
     while True:
         file = draw(pick)
-        if len(data) + 2 + len(file) > 65536:
-            break
-        data += struct.pack("<H", len(file)) + file
-        answers.append(read(file))
-    folder = "crates/reading_random_test/"
-    with open(folder + "stdin", "wb") as out:
-        out.write(data)
-    with open(folder + "stdout", "w") as out:
-        out.write("".join(answer + "\n" for answer in answers))
+        left -= 2 + len(file)
+        if left < 0:
+            return files
+        files.append(file)
+
+
+def entry(name, file, places):
+    return bytes([len(name)]) + name.encode() + struct.pack("<HH", places, len(file)) + file
+
+
+def line(name, file, places):
+    """The table holds 9s before the file is read. A file that is accepted puts as many record numbers there as there are places."""
+    answer, order = read(file)
+    table = (order + [9] * places)[:places]
+    return (name + ": " if name else "") + answer + (":" if table else "") + "".join(" %d" % place for place in table) + "\n"
+
+
+def main():
+    cases = [(name, file, 0) for name, file in EDGE_CASES] + TABLE_CASES
+    cases += [("", file, len(read(file)[1])) for file in draw_all()]
+    with open("crates/reading_test/stdin", "wb") as out:
+        out.write(b"".join(entry(*case) for case in cases))
+    with open("crates/reading_test/stdout", "w") as out:
+        out.write("".join(line(*case) for case in cases))
 
 
 main()

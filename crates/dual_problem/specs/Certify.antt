@@ -3,36 +3,39 @@
 pub mod Laws
 use mathlib.Core.List.{List}
 use Prim.Native.Nat.{ℕ}
-use lib.ListN.{length}
-use Rattle.training_file.specs.Reading.{Reading, refused, accepted, reading}
+use Rattle.training_file.specs.Refusal.{refusal}
+use Rattle.reading.specs.Reading.{Reading, refused, accepted, reading}
 use Rattle.dual_problem.specs.declared.certify.Certified.{Certified}
-use Rattle.dual_problem.specs.declared.certify.Certified.the-variants.{Refused, Accepted}
+use Rattle.dual_problem.specs.declared.certify.Certified.the-variants.{Refused, Found}
 use Rattle.dual_problem.specs.declared.certify.Thresholds.{Thresholds}
 use Rattle.dual_problem.specs.declared.multipliers.Judgement.{Judgement}
 use Rattle.dual_problem.specs.declared.multipliers.Judgement.the-variants as judged
-use Rattle.dual_problem.specs.Problem.{Problem, Feasible, Within, problem, b-up, b-low, bound, gap}
+use Rattle.dual_problem.specs.Problem.{BoundedDistance, Problem, bLow, bUp, problem}
 use Rattle.dual_problem.specs.Items.{at}
 use Rattle.dual_problem.specs.Multipliers.{judgement}
 
 abbrev pub thresholdsOf : Problem → (ℕ → ℕ) → Thresholds
-thresholdsOf P a = record { lower = b-low P a; upper = b-up P a }
+thresholdsOf P a = record { lower = bLow P a; upper = bUp P a }
 
 -- judged multipliers: the refusal, or both thresholds
 abbrev pub certifyJudged : Problem → List ℕ → Judgement → Certified
 certifyJudged P a (judged.Refused why) = Refused why
-certifyJudged P a judged.Feasible = Accepted (thresholdsOf P (at a))
+certifyJudged P a judged.Feasible = Found (thresholdsOf P (at a))
+
+-- multipliers of a problem, judged first
+abbrev pub certifyItems : Problem → List ℕ → Certified
+certifyItems P a = certifyJudged P a (judgement P a)
 
 -- "The first refusal met ends the call": those of the file, then those of the multipliers
 abbrev pub certifyRead : Reading → List ℕ → Certified
-certifyRead (refused number) a = Refused (record { number = number })
-certifyRead (accepted p order items) a = certifyJudged (problem p items) a (judgement (problem p items) a)
+certifyRead (refused number) a = Refused (refusal number)
+certifyRead (accepted p order items) a = certifyItems (problem p items) a
 
 abbrev pub certifying : List ℕ → List ℕ → Certified
 certifying file a = certifyRead (reading file) a
 
 -- Demand 3, "the same holds for any multipliers that certifying accepts, whatever their source, with the thresholds that it answers"
-abbrev pub Certain : Reading → List ℕ → Certified → Type 0
-Certain (refused number) a answer = Unit {0}
-Certain (accepted p order items) a (Refused why) = Unit {0}
-Certain (accepted p order items) a (Accepted answer) =
-    Feasible (problem p items) (at a) × Within (bound (gap (answer .lower) (answer .upper)) (p .ceiling) (length items)) (problem p items) (at a)
+abbrev pub CertifiedDistance : Reading → List ℕ → Certified → Type 0
+CertifiedDistance (refused number) a answer = Unit {0}
+CertifiedDistance (accepted p order items) a (Refused why) = Unit {0}
+CertifiedDistance (accepted p order items) a (Found found) = BoundedDistance (problem p items) (p .ceiling) (found .lower) (found .upper) (at a)

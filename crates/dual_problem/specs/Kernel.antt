@@ -1,4 +1,4 @@
--- Document 01, "Grid definitions": the kernel value K of two items, by their features. Assumes nothing.
+-- Document 01, "Grid definitions": the kernel value K of two items, by their features. Laws are in Kernel/Laws.antt. Assumes nothing.
 pub mod Laws
 use mathlib.Core.List.{List}
 use Prim.Native.Nat.{ℕ, _+_, _*_}
@@ -21,8 +21,8 @@ kernelValue Linear d xs zs = linear d xs zs
 kernelValue Square d xs zs = square d xs zs
 
 -- how large a value can be, of d features of which none is larger than F
-abbrev pub largest-linear : ℕ → ℕ → ℕ
-largest-linear d F = d * (F * F)
+abbrev pub largestLinear : ℕ → ℕ → ℕ
+largestLinear d F = d * (F * F)
 
-abbrev pub largest-kernel : ℕ → ℕ → ℕ
-largest-kernel d F = (largest-linear d F + 1) * (largest-linear d F + 1)
+abbrev pub largestKernel : ℕ → ℕ → ℕ
+largestKernel d F = (largestLinear d F + 1) * (largestLinear d F + 1)

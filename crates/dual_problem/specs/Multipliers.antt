@@ -9,32 +9,34 @@ use lib.ListN.{length}
 use Rattle.integers.specs.Places.{all}
 use Rattle.integers.specs.Sum.{sum}
 use Rattle.training_file.specs.declared.refusal.Refusal.{Refusal}
+use Rattle.training_file.specs.Refusal.{noRefusal, refusal}
 use Rattle.dual_problem.specs.declared.multipliers.Judgement.{Judgement}
 use Rattle.dual_problem.specs.declared.multipliers.Judgement.the-variants.{Refused, Feasible}
 use Rattle.dual_problem.specs.Problem.{Problem, y}
 use Rattle.dual_problem.specs.Items.{at}
 
-abbrev pub refused : ℕ → Judgement
-refused number = Refused (record { number = number })
-
 -- the sum of a_i × y_i
 abbrev pub balance : Problem → (ℕ → ℕ) → ℤ
 balance P a = sum (P .count) (λ i. pos (a i) *ℤ y P i)
 
-abbrev pub is-zero : ℤ → Bool
-is-zero (pos n) = eqb n 0
-is-zero (negsuc n) = false
+abbrev pub isZero : ℤ → Bool
+isZero (pos n) = eqb n 0
+isZero (negsuc n) = false
+
+-- whether none of the first n multipliers is over its item's ceiling
+abbrev pub withinCeilings : ℕ → Problem → (ℕ → ℕ) → Bool
+withinCeilings n P a = all n (λ i. leb (a i) (P .ceiling i))
 
 -- "6: .. multipliers not n in number; 7: a multiplier over c; 8: the sum of a × y is not 0", the first that applies
 abbrev pub judgement : Problem → List ℕ → Judgement
 judgement P a =
     cond (eqb (length a) (P .count))
-    (cond (all (P .count) (λ i. leb (at a i) (P .ceiling i)))
-    (cond (is-zero (balance P (at a))) Feasible (refused 8))
-    (refused 7))
-    (refused 6)
+    (cond (withinCeilings (P .count) P (at a))
+    (cond (isZero (balance P (at a))) Feasible (Refused (refusal 8)))
+    (Refused (refusal 7)))
+    (Refused (refusal 6))
 
--- the refusal that a judgement is: number 0, which refuses nothing, where it is none
+-- the refusal that a judgement is
 abbrev pub judgementRefusal : Judgement → Refusal
 judgementRefusal (Refused why) = why
-judgementRefusal Feasible = record { number = 0 }
+judgementRefusal Feasible = noRefusal

@@ -1,7 +1,6 @@
 -- Document 01, "Grid definitions", after report CD-99-14, formulas 2, 5 and 8; the whole-number grid and the finer grids are document
--- 01's. A position of document 01 counts from 1, a place here from 0. Laws are in Problem/Laws.antt and Problem/Same.antt. Assumes nothing.
+-- 01's. A position of document 01 counts from 1, a place here from 0. Laws are in Problem/Laws.antt. Assumes nothing.
 pub mod Laws
-pub mod Same
 use mathlib.Core.Path.{_≡_}
 use mathlib.Core.Bool.{Bool}
 use mathlib.Core.List.{List}
@@ -16,7 +15,8 @@ use Rattle.training_file.specs.declared.parameters.Parameters.{Parameters}
 use Rattle.training_file.specs.declared.item.Item.{Item}
 use Rattle.training_file.specs.declared.item.Label.{Label}
 use Rattle.training_file.specs.declared.item.Label.the-variants.{LookedUp, PassedOver}
-use Rattle.training_file.specs.Calls.{itemIn}
+use Rattle.training_file.specs.Item.{opposite}
+use Rattle.reading.specs.Calls.{itemIn}
 use Rattle.dual_problem.specs.Kernel.{kernelValue}
 
 -- what training works on: the number of items, their labels, their kernel values, S, and the ceiling of each item
@@ -46,35 +46,34 @@ unfoldable pub gradient : Problem → (ℕ → ℕ) → ℕ → ℤ
 gradient P a i = sum (P .count) (λ j. pos (a j) *ℤ y P j *ℤ P .kernel i j) -ℤ pos (P .grid) *ℤ y P i
 
 -- "Up set: y = +1 with a < c, or y = −1 with a > 0."
-abbrev pub in-up : Label → ℕ → ℕ → Bool
-in-up LookedUp a c = ltb a c
-in-up PassedOver a c = ltb 0 a
+abbrev pub inUp : Label → ℕ → ℕ → Bool
+inUp LookedUp a c = ltb a c
+inUp PassedOver a c = ltb 0 a
 
--- "Low set: y = +1 with a > 0, or y = −1 with a < c."
-abbrev pub in-low : Label → ℕ → ℕ → Bool
-in-low LookedUp a c = ltb 0 a
-in-low PassedOver a c = ltb a c
+-- "Low set: y = +1 with a > 0, or y = −1 with a < c": the same of the opposite label
+abbrev pub inLow : Label → ℕ → ℕ → Bool
+inLow label a c = inUp (opposite label) a c
 
 abbrev pub up : Problem → (ℕ → ℕ) → ℕ → Bool
-up P a i = in-up (P .label i) (a i) (P .ceiling i)
+up P a i = inUp (P .label i) (a i) (P .ceiling i)
 
 abbrev pub low : Problem → (ℕ → ℕ) → ℕ → Bool
-low P a i = in-low (P .label i) (a i) (P .ceiling i)
+low P a i = inLow (P .label i) (a i) (P .ceiling i)
 
 -- "The upper threshold (b_up) is the least G over the up set, the lower one (b_low) the greatest over the low set."
-abbrev pub b-up : Problem → (ℕ → ℕ) → ℤ
-b-up P a = least (P .count) (up P a) (gradient P a)
+abbrev pub bUp : Problem → (ℕ → ℕ) → ℤ
+bUp P a = least (P .count) (up P a) (gradient P a)
 
-abbrev pub b-low : Problem → (ℕ → ℕ) → ℤ
-b-low P a = greatest (P .count) (low P a) (gradient P a)
+abbrev pub bLow : Problem → (ℕ → ℕ) → ℤ
+bLow P a = greatest (P .count) (low P a) (gradient P a)
 
 -- the sum over i, j of v_i × v_j × y_i × y_j × K_ij
-unfoldable pub double-sum : Problem → (ℕ → ℕ) → ℤ
-double-sum P v = sum (P .count) (λ i. sum (P .count) (λ j. pos (v i) *ℤ pos (v j) *ℤ y P i *ℤ y P j *ℤ P .kernel i j))
+unfoldable pub doubleSum : Problem → (ℕ → ℕ) → ℤ
+doubleSum P v = sum (P .count) (λ i. sum (P .count) (λ j. pos (v i) *ℤ pos (v j) *ℤ y P i *ℤ y P j *ℤ P .kernel i j))
 
 -- "Objective D = sum over i, j of a_i × a_j × y_i × y_j × K_ij, minus 2 × S × the sum of a_i."
 unfoldable pub objective : Problem → (ℕ → ℕ) → ℤ
-objective P a = double-sum P a -ℤ pos 2 *ℤ pos (P .grid) *ℤ sum (P .count) (λ i. pos (a i))
+objective P a = doubleSum P a -ℤ pos 2 *ℤ pos (P .grid) *ℤ sum (P .count) (λ i. pos (a i))
 
 -- "Finer grid, for a whole m' ≥ 1: whole numbers v with 0 ≤ v_i ≤ m' × c and sum of v_i × y_i equal to 0."
 pub record Finer (P : Problem) (m : ℕ) (v : ℕ → ℕ) : Type 0 where
@@ -82,16 +81,16 @@ pub record Finer (P : Problem) (m : ℕ) (v : ℕ → ℕ) : Type 0 where
   pub balanced : sum (P .count) (λ i. pos (v i) *ℤ y P i) ≡ pos 0
 
 -- "Its objective is the double sum over v minus 2 × S × m' × the sum of v_i."
-unfoldable pub finer-objective : Problem → ℕ → (ℕ → ℕ) → ℤ
-finer-objective P m v = double-sum P v -ℤ pos 2 *ℤ pos (P .grid) *ℤ pos m *ℤ sum (P .count) (λ i. pos (v i))
+unfoldable pub finerObjective : Problem → ℕ → (ℕ → ℕ) → ℤ
+finerObjective P m v = doubleSum P v -ℤ pos 2 *ℤ pos (P .grid) *ℤ pos m *ℤ sum (P .count) (λ i. pos (v i))
 
 -- Demand 3: "The gap is the lower threshold answered minus the upper one answered, or zero if that is negative."
-abbrev pub not-below-zero : ℤ → ℕ
-not-below-zero (pos n) = n
-not-below-zero (negsuc n) = 0
+abbrev pub notBelowZero : ℤ → ℕ
+notBelowZero (pos n) = n
+notBelowZero (negsuc n) = 0
 
 abbrev pub gap : ℤ → ℤ → ℕ
-gap lower upper = not-below-zero (lower -ℤ upper)
+gap lower upper = notBelowZero (lower -ℤ upper)
 
 -- Demand 3: "2 times the gap, times the ceiling, times half the item count rounded down."
 abbrev pub bound : ℕ → ℕ → ℕ → ℕ
@@ -99,22 +98,28 @@ bound g c n = 2 * g * c * (n / 2)
 
 -- Demand 3: no feasible multipliers, on this grid or on any finer one, have an objective below D minus the distance: "the objective of
 -- v plus m' × m' times the bound is at least m' × m' times D"
-unfoldable pub Within : ℕ → Problem → (ℕ → ℕ) → Type 0
-Within distance P a =
-    (m : ℕ) → 1 ≤ m → (v : ℕ → ℕ) → Finer P m v → (pos (m * m) *ℤ objective P a) ≤ℤ (finer-objective P m v +ℤ pos (m * m) *ℤ pos distance)
+unfoldable pub WithinDistance : ℕ → Problem → (ℕ → ℕ) → Type 0
+WithinDistance distance P a =
+    (m : ℕ) → 1 ≤ m → (v : ℕ → ℕ) → Finer P m v → (pos (m * m) *ℤ objective P a) ≤ℤ (finerObjective P m v +ℤ pos (m * m) *ℤ pos distance)
+
+-- Demand 3 of multipliers a with their thresholds, where no ceiling is above c: they are feasible, and no others beat them by more than
+-- the bound
+pub record BoundedDistance (P : Problem) (c : ℕ) (lower upper : ℤ) (a : ℕ → ℕ) : Type 0 where
+  pub feasible : Feasible P a
+  pub distance : WithinDistance (bound (gap lower upper) c (P .count)) P a
 
 -- ---- the problem of a training file
 
 -- the ceiling of an item with a label
-abbrev pub ceiling-of : Parameters → Label → ℕ
-ceiling-of p label = p .ceiling
+abbrev pub ceilingOf : Parameters → Label → ℕ
+ceilingOf p label = p .ceiling
 
 abbrev pub problem : Parameters → List Item → Problem
 problem p items =
     record {
       count = length items;
       label = λ i. itemIn items i .label;
-      kernel = λ i j. kernelValue (p .kernel) (p .features) (itemIn items i .features) (itemIn items j .features);
+      kernel = λ i j. kernelValue (p .kernel) (p .used) (itemIn items i .features) (itemIn items j .features);
       grid = p .grid;
-      ceiling = λ i. ceiling-of p (itemIn items i .label);
+      ceiling = λ i. ceilingOf p (itemIn items i .label);
     }

@@ -1,19 +1,18 @@
 // Certifying: both thresholds of any feasible multipliers of any file.
 
 ghost use mathlib.Core.Path.{_≡_};
-ghost use Prim.Native.Nat.{_≤_};
-ghost use Rattle.training_file.specs.Reading.{reading};
-ghost use Rattle.training_file.specs.AcceptedLaws.{Ranges};
-ghost use Rattle.dual_problem.specs.Items.{Listed, Prepared, at, problem-of};
-ghost use Rattle.dual_problem.specs.Multipliers.{judgement as judgementOf};
-ghost use Rattle.dual_problem.specs.Certify.{Certain, certifyJudged, certifying, thresholdsOf};
+ghost use Rattle.training_file.specs.Parameters.{Ranges};
+ghost use Rattle.reading.specs.Reading.{reading};
+ghost use Rattle.dual_problem.specs.Items.{Listed, MultipliersListed, at, problemOf};
+ghost use Rattle.dual_problem.specs.Certify.{CertifiedDistance, certifyItems, certifying, thresholdsOf};
 use super::gradient::fill_gradient;
 use super::multipliers::Judgement;
 use super::multipliers::judge;
 use super::thresholds::find_extremes;
+use reading::reader;
+use reading::reader::FileAnswer;
+use training_file::item::Item;
 use training_file::parameters::Parameters;
-use training_file::reader;
-use training_file::reader::Outcome;
 use training_file::refusal::Refusal;
 
 // b_low and b_up.
@@ -24,7 +23,7 @@ pub struct Thresholds {
 
 pub enum Certified {
     Refused(Refusal),
-    Accepted(Thresholds),
+    Found(Thresholds),
 }
 
 // Both thresholds of multipliers that were judged. G is worked out here, so that no list has to be lent for it.
@@ -35,10 +34,10 @@ pub fn find_thresholds(
     parameters: Parameters,
     multipliers: &[u32],
 ) -> Thresholds
-    requires { ⌜ Prepared (now file) (now order) count parameters (now multipliers) ⌝ }
-    ensures { λ r. ⌜ r ≡ thresholdsOf (problem-of (now (file .entry)) parameters) (at (now (multipliers .entry))) ⌝ }
+    requires { ⌜ MultipliersListed (now file) (now order) count parameters (now multipliers) ⌝ }
+    ensures { λ r. ⌜ r ≡ thresholdsOf (problemOf (now (file .entry)) parameters) (at (now (multipliers .entry))) ⌝ }
 {
-    let mut gradient = [0i64; 256];
+    let mut gradient = [0i64; Item::MAX_COUNT];
     fill_gradient(file, order, count, parameters, multipliers, &mut gradient);
     let found = find_extremes(file, order, count, parameters, multipliers, &gradient);
     let low = found.low;
@@ -58,24 +57,24 @@ fn certify_read(
     multipliers: &[u32],
 ) -> Certified
     requires { ⌜ Listed (now file) (now order) count × Ranges parameters ⌝ }
-    ensures { λ r. ⌜ r ≡ certifyJudged (problem-of (now (file .entry)) parameters) (now (multipliers .entry)) (judgementOf (problem-of (now (file .entry)) parameters) (now (multipliers .entry))) ⌝ }
+    ensures { λ r. ⌜ r ≡ certifyItems (problemOf (now (file .entry)) parameters) (now (multipliers .entry)) ⌝ }
 {
     let judgement = judge(file, order, count, parameters, multipliers);
     let Judgement::Feasible = judgement else {
         return Certified::Refused(judgement.refusal());
     };
-    Certified::Accepted(find_thresholds(file, order, count, parameters, multipliers))
+    Certified::Found(find_thresholds(file, order, count, parameters, multipliers))
 }
 
 // Any file and any multipliers.
 pub fn certify(file: &[u8], multipliers: &[u32]) -> Certified
     ensures answer { λ r. ⌜ r ≡ certifying (now (file .entry)) (now (multipliers .entry)) ⌝ }
-    ensures distance { λ r. ⌜ Certain (reading (now (file .entry))) (now (multipliers .entry)) r ⌝ }
+    ensures distance { λ r. ⌜ CertifiedDistance (reading (now (file .entry))) (now (multipliers .entry)) r ⌝ }
 {
-    let mut order = [0u16; 256];
-    let outcome = reader::order(file, &mut order);
-    let Outcome::Accepted(parameters, count) = outcome else {
-        return Certified::Refused(outcome.refusal());
+    let mut order = [0u16; Item::MAX_COUNT];
+    let answer = reader::order(file, &mut order);
+    let FileAnswer::Accepted(parameters, count) = answer else {
+        return Certified::Refused(answer.refusal());
     };
     certify_read(file, &order, count, parameters, multipliers)
 }

@@ -4,24 +4,27 @@ ghost use mathlib.Core.Path.{_≡_};
 ghost use Prim.Native.Nat.{_*_, _≤_, _<_};
 ghost use lib.ListN.{length};
 ghost use lib.IntN.{pos, natAbs, _*ℤ_};
-ghost use Rattle.dual_problem.specs.Kernel.{largest-kernel};
-ghost use Rattle.dual_problem.specs.Problem.{gradient as gradientOf, sign, y};
-ghost use Rattle.training_file.specs.Calls.{Tabled};
 ghost use Rattle.integers.specs.Written.{written};
-ghost use Rattle.dual_problem.specs.Items.{Prepared, at, kernelWith, largest-gradient, problem-of, weighedSum};
+ghost use Rattle.training_file.specs.Parameters.{ceilingMost};
+ghost use Rattle.training_file.specs.Layout.{featureCount};
+ghost use Rattle.reading.specs.Calls.{Tabled};
+ghost use Rattle.dual_problem.specs.Size.{gradientMost, kernelMost, termMost, weighedMost};
+ghost use Rattle.dual_problem.specs.Problem.{gradient as gradientOf, sign};
+ghost use Rattle.dual_problem.specs.Items.{MultipliersListed, added, at, problemOf, weighedWith};
 use super::kernel::kernel_value;
-use super::sign::signed;
+use super::sign::with_sign;
+use reading::reader::fetch;
 use training_file::item::Item;
 use training_file::item::Label;
 use training_file::parameters::Parameters;
-use training_file::reader::fetch;
 
 // What one item adds to G: its multiplier, with its label's sign, times a kernel value.
 fn term(multiplier: u32, label: Label, kernel: i64) -> i64
-    requires { ⌜ (multiplier ≤ 65536) × (natAbs kernel ≤ largest-kernel 16 128) ⌝ }
-    ensures { λ r. ⌜ (r ≡ pos multiplier *ℤ sign label *ℤ kernel) × (natAbs r ≤ 65536 * largest-kernel 16 128) ⌝ }
+    requires { ⌜ (multiplier ≤ ceilingMost) × (natAbs kernel ≤ kernelMost) ⌝ }
+    ensures value { λ r. ⌜ r ≡ pos multiplier *ℤ sign label *ℤ kernel ⌝ }
+    ensures size { λ r. ⌜ natAbs r ≤ termMost ⌝ }
 {
-    signed(multiplier, label) * kernel
+    with_sign(multiplier, label) * kernel
 }
 
 // What the item at a place adds to the weighed sum. One with multiplier 0 adds nothing, and isn't fetched.
@@ -33,8 +36,9 @@ fn addend(
     x: Item,
     place: usize,
 ) -> i64
-    requires { ⌜ Tabled (now file) (now order) place × (multiplier ≤ 65536) × (parameters .features ≤ 16) ⌝ }
-    ensures { λ r. ⌜ (r ≡ pos multiplier *ℤ y (problem-of (now (file .entry)) parameters) place *ℤ kernelWith (now (file .entry)) parameters (x .features) place) × (natAbs r ≤ 65536 * largest-kernel 16 128) ⌝ }
+    requires { ⌜ Tabled (now file) (now order) place × (multiplier ≤ ceilingMost) × (parameters .used ≤ featureCount) ⌝ }
+    ensures value { λ r. ⌜ r ≡ added (now (file .entry)) parameters (x .features) multiplier place ⌝ }
+    ensures size { λ r. ⌜ natAbs r ≤ termMost ⌝ }
 {
     if multiplier == 0 {
         return 0;
@@ -53,8 +57,9 @@ pub fn weighed_sum(
     multipliers: &[u32],
     x: Item,
 ) -> i64
-    requires { ⌜ Prepared (now file) (now order) count parameters (now multipliers) ⌝ }
-    ensures { λ r. ⌜ (r ≡ weighedSum (problem-of (now (file .entry)) parameters) (at (now (multipliers .entry))) (kernelWith (now (file .entry)) parameters (x .features))) × (natAbs r ≤ 256 * (65536 * largest-kernel 16 128)) ⌝ }
+    requires { ⌜ MultipliersListed (now file) (now order) count parameters (now multipliers) ⌝ }
+    ensures value { λ r. ⌜ r ≡ weighedWith (now (file .entry)) parameters (x .features) (at (now (multipliers .entry))) ⌝ }
+    ensures size { λ r. ⌜ natAbs r ≤ weighedMost ⌝ }
 {
     let mut sum: i64 = 0;
     let mut j = 0;
@@ -74,12 +79,13 @@ pub fn gradient_at(
     multipliers: &[u32],
     place: usize,
 ) -> i64
-    requires { ⌜ Prepared (now file) (now order) count parameters (now multipliers) × (place < count) ⌝ }
-    ensures { λ r. ⌜ (r ≡ gradientOf (problem-of (now (file .entry)) parameters) (at (now (multipliers .entry))) place) × (natAbs r ≤ largest-gradient) ⌝ }
+    requires { ⌜ MultipliersListed (now file) (now order) count parameters (now multipliers) × (place < count) ⌝ }
+    ensures value { λ r. ⌜ r ≡ gradientOf (problemOf (now (file .entry)) parameters) (at (now (multipliers .entry))) place ⌝ }
+    ensures size { λ r. ⌜ natAbs r ≤ gradientMost ⌝ }
 {
     let x = fetch(file, order, place);
     let label = x.label;
-    weighed_sum(file, order, count, parameters, multipliers, x) - signed(parameters.grid, label)
+    weighed_sum(file, order, count, parameters, multipliers, x) - with_sign(parameters.grid, label)
 }
 
 // Writes G of each item into the first places of a lent list; later places keep theirs.
@@ -91,8 +97,10 @@ pub fn fill_gradient(
     multipliers: &[u32],
     gradient: &mut [i64],
 )
-    requires { ⌜ Prepared (now file) (now order) count parameters (now multipliers) × (count ≤ length (now gradient)) ⌝ }
-    ensures { λ _. ⌜ now (gradient .exit) ≡ written count (gradientOf (problem-of (now (file .entry)) parameters) (at (now (multipliers .entry)))) (now (gradient .entry)) ⌝ }
+    requires { ⌜ MultipliersListed (now file) (now order) count parameters (now multipliers) × (count ≤ length (now gradient)) ⌝ }
+    ensures { λ _.
+        ⌜ now (gradient .exit)
+        ≡ written count (gradientOf (problemOf (now (file .entry)) parameters) (at (now (multipliers .entry)))) (now (gradient .entry)) ⌝ }
 {
     let mut i = 0;
     while i < count {

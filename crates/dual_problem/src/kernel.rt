@@ -4,21 +4,25 @@
 ghost use mathlib.Core.Path.{_≡_};
 ghost use Prim.Native.Nat.{_*_, _≤_};
 ghost use lib.IntN.{_*ℤ_, natAbs};
-ghost use Rattle.dual_problem.specs.Kernel.{linear, kernelValue, largest-linear, largest-kernel};
+ghost use Rattle.training_file.specs.Layout.{featureCount, signedMost};
+ghost use Rattle.dual_problem.specs.Size.{kernelMost, linearMost};
+ghost use Rattle.dual_problem.specs.Kernel.{linear, kernelValue};
 use training_file::item::Item;
 use training_file::parameters::Kernel;
 use training_file::parameters::Parameters;
 
 fn product(x: i8, z: i8) -> i64
-    ensures { λ r. ⌜ (r ≡ x *ℤ z) × (natAbs r ≤ 128 * 128) ⌝ }
+    ensures value { λ r. ⌜ r ≡ x *ℤ z ⌝ }
+    ensures size { λ r. ⌜ natAbs r ≤ signedMost * signedMost ⌝ }
 {
     (x as i64) * (z as i64)
 }
 
 // The sum of products of the features in use.
 fn feature_product(used: usize, x: Item, z: Item) -> i64
-    requires { ⌜ used ≤ 16 ⌝ }
-    ensures { λ r. ⌜ (r ≡ linear used (x .features) (z .features)) × (natAbs r ≤ largest-linear 16 128) ⌝ }
+    requires { ⌜ used ≤ featureCount ⌝ }
+    ensures value { λ r. ⌜ r ≡ linear used (x .features) (z .features) ⌝ }
+    ensures size { λ r. ⌜ natAbs r ≤ linearMost ⌝ }
 {
     let xs = x.features;
     let zs = z.features;
@@ -33,10 +37,11 @@ fn feature_product(used: usize, x: Item, z: Item) -> i64
 
 // K of two items.
 pub fn kernel_value(parameters: Parameters, x: Item, z: Item) -> i64
-    requires { ⌜ parameters .features ≤ 16 ⌝ }
-    ensures { λ r. ⌜ (r ≡ kernelValue (parameters .kernel) (parameters .features) (x .features) (z .features)) × (natAbs r ≤ largest-kernel 16 128) ⌝ }
+    requires { ⌜ parameters .used ≤ featureCount ⌝ }
+    ensures value { λ r. ⌜ r ≡ kernelValue (parameters .kernel) (parameters .used) (x .features) (z .features) ⌝ }
+    ensures size { λ r. ⌜ natAbs r ≤ kernelMost ⌝ }
 {
-    let sum = feature_product(parameters.features, x, z);
+    let sum = feature_product(parameters.used, x, z);
     let kernel = parameters.kernel;
     match kernel {
         Kernel::Linear => sum,

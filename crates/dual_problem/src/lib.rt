@@ -1,4 +1,6 @@
-// What certifying needs: kernel values, the gradient, the two thresholds, and the judging of multipliers.
+// The dual problem of document 01: kernel values, G, the up and the low set, the two thresholds, judged multipliers; and certifying,
+// which needs no more. It may use `integers`, `training_file` and `reading`.
+
 pub mod certify;
 pub mod gradient;
 pub mod kernel;

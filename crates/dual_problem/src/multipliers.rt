@@ -1,27 +1,17 @@
 // Judging multipliers against the items of a read file (document 01, refusals 6 to 8).
 
 ghost use mathlib.Core.Path.{_≡_};
-ghost use Prim.Native.Nat.{_*_, _≤_};
-ghost use lib.Dec.{leb};
-ghost use lib.IntN.{natAbs};
+ghost use Prim.Native.Nat.{_≤_};
 ghost use lib.ListN.{length};
-ghost use Rattle.integers.specs.Places.{all};
 ghost use Rattle.training_file.specs.declared.parameters.Parameters.{Parameters};
-ghost use Rattle.dual_problem.specs.Problem.{ceiling-of};
-ghost use Rattle.dual_problem.specs.Items.{Listed, at, problem-of};
-ghost use Rattle.dual_problem.specs.Multipliers.{balance, judgement, judgementRefusal};
-use super::sign::signed;
+ghost use Rattle.dual_problem.specs.Problem.{ceilingOf};
+ghost use Rattle.dual_problem.specs.Items.{Listed, at, problemOf};
+ghost use Rattle.dual_problem.specs.Multipliers.{balance, judgement, judgementRefusal, withinCeilings};
+use super::sign::with_sign;
+use reading::reader::fetch_label;
 use training_file::item::Label;
 use training_file::parameters::Parameters;
-use training_file::reader::fetch;
 use training_file::refusal::Refusal;
-
-// The refusals that the caller can cause by multipliers.
-pub const COUNT: u8 = 6;
-
-pub const CEILING: u8 = 7;
-
-pub const BALANCE: u8 = 8;
 
 pub enum Judgement {
     Refused(Refusal),
@@ -29,20 +19,20 @@ pub enum Judgement {
 }
 
 impl Judgement {
-    // The refusal, where this is one; feasible multipliers are no refusal, and give the number 0.
+    // The refusal, where this is one.
     pub fn refusal(self) -> Refusal
         ensures { λ r. ⌜ r ≡ judgementRefusal self ⌝ }
     {
         match self {
             Judgement::Refused(refusal) => refusal,
-            Judgement::Feasible => Refusal { number: 0 },
+            Judgement::Feasible => Refusal::NONE,
         }
     }
 }
 
 // The ceiling of an item with this label.
 pub fn ceiling(parameters: Parameters, label: Label) -> u32
-    ensures { λ r. ⌜ r ≡ ceiling-of parameters label ⌝ }
+    ensures { λ r. ⌜ r ≡ ceilingOf parameters label ⌝ }
 {
     match label {
         Label::LookedUp => parameters.ceiling,
@@ -59,12 +49,11 @@ fn within_ceilings(
     multipliers: &[u32],
 ) -> bool
     requires { ⌜ Listed (now file) (now order) count × (count ≤ length (now multipliers)) ⌝ }
-    ensures { λ r. ⌜ r ≡ all count (λ i. leb (at (now (multipliers .entry)) i) (problem-of (now (file .entry)) parameters .ceiling i)) ⌝ }
+    ensures { λ r. ⌜ r ≡ withinCeilings count (problemOf (now (file .entry)) parameters) (at (now (multipliers .entry))) ⌝ }
 {
     let mut i = 0;
     while i < count {
-        let item = fetch(file, order, i);
-        let label = item.label;
+        let label = fetch_label(file, order, i);
         if ceiling(parameters, label) < multipliers[i] {
             return false;
         }
@@ -76,14 +65,13 @@ fn within_ceilings(
 // The sum of the multipliers, each with its label's sign.
 fn signed_sum(file: &[u8], order: &[u16], count: usize, multipliers: &[u32]) -> i64
     requires { ⌜ Listed (now file) (now order) count × (count ≤ length (now multipliers)) ⌝ }
-    ensures { λ r. ⌜ ((p : Parameters) → r ≡ balance (problem-of (now (file .entry)) p) (at (now (multipliers .entry)))) ⌝ }
+    ensures { λ r. ⌜ ((p : Parameters) → r ≡ balance (problemOf (now (file .entry)) p) (at (now (multipliers .entry)))) ⌝ }
 {
     let mut sum: i64 = 0;
     let mut i = 0;
     while i < count {
-        let item = fetch(file, order, i);
-        let label = item.label;
-        sum += signed(multipliers[i], label);
+        let label = fetch_label(file, order, i);
+        sum += with_sign(multipliers[i], label);
         i += 1;
     }
     sum
@@ -98,16 +86,16 @@ pub fn judge(
     multipliers: &[u32],
 ) -> Judgement
     requires { ⌜ Listed (now file) (now order) count ⌝ }
-    ensures { λ r. ⌜ r ≡ judgement (problem-of (now (file .entry)) parameters) (now (multipliers .entry)) ⌝ }
+    ensures { λ r. ⌜ r ≡ judgement (problemOf (now (file .entry)) parameters) (now (multipliers .entry)) ⌝ }
 {
     if multipliers.len() != count {
-        return Judgement::Refused(Refusal { number: COUNT });
+        return Judgement::Refused(Refusal::LIST_LENGTH);
     }
     if !within_ceilings(file, order, count, parameters, multipliers) {
-        return Judgement::Refused(Refusal { number: CEILING });
+        return Judgement::Refused(Refusal::MULTIPLIER);
     }
     if signed_sum(file, order, count, multipliers) != 0 {
-        return Judgement::Refused(Refusal { number: BALANCE });
+        return Judgement::Refused(Refusal::BALANCE);
     }
     Judgement::Feasible
 }

@@ -1,20 +1,20 @@
 // The up set, the low set, and where the two thresholds are attained (document 01, "Grid definitions").
 
 ghost use mathlib.Core.Path.{_≡_};
-ghost use Prim.Native.Nat.{_≤_};
-ghost use lib.IntN.{pos};
-ghost use lib.ListN.{length, getD};
-ghost use Rattle.dual_problem.specs.Problem.{in-up, in-low};
-ghost use Rattle.dual_problem.specs.Items.{Listed, at, problem-of};
-ghost use Rattle.dual_problem.specs.Thresholds.{bestBeside, bestValue, extremesOf};
+ghost use Prim.Native.Nat.{_≤_, _<_};
+ghost use lib.ListN.{length};
+ghost use Rattle.reading.specs.Calls.{Tabled};
+ghost use Rattle.dual_problem.specs.Problem.{inUp};
+ghost use Rattle.dual_problem.specs.Items.{Listed, at, problemOf};
+ghost use Rattle.dual_problem.specs.Thresholds.{bestBeside, bestValue, extremesIn, setsOf};
 use super::multipliers::ceiling;
+use reading::reader::fetch_label;
 use training_file::item::Label;
 use training_file::parameters::Parameters;
-use training_file::reader::fetch;
 
 // Whether an item with this multiplier and ceiling is in the up set.
-pub fn in_up(label: Label, multiplier: u32, ceiling: u32) -> bool
-    ensures { λ r. ⌜ r ≡ in-up label multiplier ceiling ⌝ }
+fn in_up(label: Label, multiplier: u32, ceiling: u32) -> bool
+    ensures { λ r. ⌜ r ≡ inUp label multiplier ceiling ⌝ }
 {
     match label {
         Label::LookedUp => multiplier < ceiling,
@@ -22,13 +22,29 @@ pub fn in_up(label: Label, multiplier: u32, ceiling: u32) -> bool
     }
 }
 
-// Whether it is in the low set.
-pub fn in_low(label: Label, multiplier: u32, ceiling: u32) -> bool
-    ensures { λ r. ⌜ r ≡ in-low label multiplier ceiling ⌝ }
+// Whether an item is in either set.
+pub struct Sets {
+    pub low: bool,
+    pub up: bool,
+}
+
+// The sets of the item at a place. The low set is the up set of the opposite label.
+pub fn sets_at(
+    file: &[u8],
+    order: &[u16],
+    parameters: Parameters,
+    multipliers: &[u32],
+    place: usize,
+) -> Sets
+    requires { ⌜ Tabled (now file) (now order) place × (place < length (now multipliers)) ⌝ }
+    ensures { λ r. ⌜ r ≡ setsOf (problemOf (now (file .entry)) parameters) (at (now (multipliers .entry))) place ⌝ }
 {
-    match label {
-        Label::LookedUp => 0 < multiplier,
-        Label::PassedOver => multiplier < ceiling,
+    let label = fetch_label(file, order, place);
+    let most = ceiling(parameters, label);
+    let multiplier = multipliers[place];
+    Sets {
+        low: in_up(label.opposite(), multiplier, most),
+        up: in_up(label, multiplier, most),
     }
 }
 
@@ -82,21 +98,18 @@ pub fn find_extremes(
     gradient: &[i64],
 ) -> Extremes
     requires { ⌜ Listed (now file) (now order) count × (count ≤ length (now multipliers)) × (count ≤ length (now gradient)) ⌝ }
-    ensures { λ r. ⌜ r ≡ extremesOf (problem-of (now (file .entry)) parameters) (at (now (multipliers .entry))) (λ i. getD (now (gradient .entry)) i (pos 0)) ⌝ }
+    ensures { λ r. ⌜ r ≡ extremesIn (now (file .entry)) parameters (now (multipliers .entry)) (now (gradient .entry)) ⌝ }
 {
     let mut low = Best::Nothing;
     let mut up = Best::Nothing;
     let mut i = 0;
     while i < count {
-        let item = fetch(file, order, i);
-        let label = item.label;
-        let most = ceiling(parameters, label);
-        let multiplier = multipliers[i];
+        let sets = sets_at(file, order, parameters, multipliers, i);
         let value = gradient[i];
-        if in_low(label, multiplier, most) {
+        if sets.low {
             low = low.beside(i, value, false);
         }
-        if in_up(label, multiplier, most) {
+        if sets.up {
             up = up.beside(i, value, true);
         }
         i += 1;

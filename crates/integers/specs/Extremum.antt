@@ -1,7 +1,6 @@
 -- The least and the greatest of f i over the places i < n that pass a test, and the lowest place that attains it. Their laws are in
 -- Extremum/Laws.antt and Extremum/First.antt. Assumes nothing.
 pub mod Laws
-pub mod First
 use mathlib.Core.Bool.{Bool, true, false, cond}
 use mathlib.Core.Option.{Option, none, some}
 use Prim.Native.Nat.{ℕ, zero, suc}
@@ -26,22 +25,22 @@ abbrev pub argmax : ℕ → (ℕ → Bool) → (ℕ → ℤ) → Option ℕ
 argmax = extreme (λ a b. ltZ b a)
 
 -- the value at a place that was found, 0 where there is none
-abbrev pub value-at : (ℕ → ℤ) → Option ℕ → ℤ
-value-at f none = pos 0
-value-at f (some k) = f k
+abbrev pub valueAt : (ℕ → ℤ) → Option ℕ → ℤ
+valueAt f none = pos 0
+valueAt f (some k) = f k
 
 abbrev pub least : ℕ → (ℕ → Bool) → (ℕ → ℤ) → ℤ
-least n p f = value-at f (argmin n p f)
+least n p f = valueAt f (argmin n p f)
 
 abbrev pub greatest : ℕ → (ℕ → Bool) → (ℕ → ℤ) → ℤ
-greatest n p f = value-at f (argmax n p f)
+greatest n p f = valueAt f (argmax n p f)
 
 -- the first of the places i < n that pass a test
-abbrev pub or-place : Option ℕ → ℕ → Bool → Option ℕ
-or-place (some k) n t = some k
-or-place none n true = some n
-or-place none n false = none
+abbrev pub orPlace : Option ℕ → ℕ → Bool → Option ℕ
+orPlace (some k) n t = some k
+orPlace none n true = some n
+orPlace none n false = none
 
 unfoldable pub first : ℕ → (ℕ → Bool) → Option ℕ
 first zero p = none
-first (suc n) p = or-place (first n p) n (p n)
+first (suc n) p = orPlace (first n p) n (p n)

@@ -6,7 +6,6 @@ pub mod Linear
 pub mod Order
 pub mod Sum
 pub mod Bounds
-pub mod Balanced
 pub mod Places
 pub mod Written
 pub mod Extremum

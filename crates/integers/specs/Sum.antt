@@ -1,6 +1,5 @@
 -- The sum of f i over the places i < n. Its laws are in Sum/Laws.antt and Sum/Places.antt. Assumes nothing.
 pub mod Laws
-pub mod Places
 use Prim.Native.Nat.{ℕ, zero, suc}
 use lib.IntN.{ℤ, pos, _+ℤ_}
 

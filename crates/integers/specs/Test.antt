@@ -1,6 +1,7 @@
--- Tests, as truth values: a test that is both true and false, one that is not the one, and a conjunction. Assumes nothing.
+-- Tests, as truth values: a test that is both true and false, one that is not the one, a conjunction, and a choice. Assumes nothing.
 use mathlib.Core.Path.{_≡_, refl, sym, _∙_}
-use mathlib.Core.Bool.{Bool, true, false, _&&_, true≢false}
+use mathlib.Core.Logic.{_⊎_, inl, inr}
+use mathlib.Core.Bool.{Bool, true, false, _&&_, cond, true≢false}
 
 -- no test is both
 pub clash : {X : Type 0} {t : Bool} → t ≡ true → t ≡ false → X
@@ -26,9 +27,27 @@ pub &&-right : (s t : Bool) → s && t ≡ true → t ≡ true
 &&-right true t h = h
 &&-right false t h = clash h refl
 
+pub &&-both : (s t : Bool) → s && t ≡ true → (s ≡ true) × (t ≡ true)
+&&-both s t h = (&&-left s t h, &&-right s t h)
+
+pub &&-either : (s t : Bool) → s && t ≡ false → (s ≡ false) ⊎ (t ≡ false)
+&&-either true t h = inr h
+&&-either false t h = inl refl
+
 pub &&-false-left : {s : Bool} (t : Bool) → s ≡ false → s && t ≡ false
 &&-false-left t h = λ i. h i && t
 
 pub &&-false-right : (s : Bool) {t : Bool} → t ≡ false → s && t ≡ false
 &&-false-right true h = h
 &&-false-right false h = refl
+
+-- ---- a choice
+module _ {A : Type 0} {x y z : A} where
+  -- it chose the first where it is not the second
+  pub chose-first : (b : Bool) → (y ≡ z → ⊥) → cond b x y ≡ z → (b ≡ true) × (x ≡ z)
+  chose-first true other e = (refl, e)
+  chose-first false other e = absurd (other e)
+
+  pub chose-second : (b : Bool) → (x ≡ z → ⊥) → cond b x y ≡ z → (b ≡ false) × (y ≡ z)
+  chose-second true other e = absurd (other e)
+  chose-second false other e = (refl, e)

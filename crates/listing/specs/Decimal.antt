@@ -1,7 +1,5 @@
--- Numbers in decimal, without leading zeros, as a list of bytes. Laws are in Decimal/Laws.antt; Decimal/Meaning.antt has that the
--- definition is right. Assumes nothing.
+-- Numbers in decimal, without leading zeros, as a list of bytes. Laws are in Decimal/Laws.antt. Assumes nothing.
 pub mod Laws
-pub mod Meaning
 use mathlib.Core.Bool.{cond}
 use mathlib.Core.List.{List, [], _∷_, _++_}
 use Prim.Native.Nat.{ℕ, zero, suc, _+_, _/_, _%_}
@@ -18,6 +16,6 @@ unfoldable pub decimal : ℕ → List ℕ
 decimal number = digits 20 number
 
 -- a minus sign, byte 45, for a negative number
-unfoldable pub signed : ℤ → List ℕ
-signed (pos number) = decimal number
-signed (negsuc number) = 45 ∷ decimal (suc number)
+unfoldable pub signedDecimal : ℤ → List ℕ
+signedDecimal (pos number) = decimal number
+signedDecimal (negsuc number) = 45 ∷ decimal (suc number)

@@ -9,10 +9,11 @@ use lib.ListN.{length, getD}
 use Rattle.training_file.specs.declared.item.Item.{Item}
 use Rattle.training_file.specs.declared.item.Label.{Label}
 use Rattle.training_file.specs.declared.item.Label.the-variants.{LookedUp, PassedOver}
-use Rattle.training_file.specs.declared.reader.Outcome.{Outcome}
-use Rattle.training_file.specs.declared.reader.Outcome.the-variants as reader
-use Rattle.training_file.specs.Reading.{Reading, refused, accepted, reading}
-use Rattle.training_file.specs.Calls.{itemIn, itemsIn, orderIn}
+use Rattle.training_file.specs.Refusal.{refusal}
+use Rattle.reading.specs.declared.reader.FileAnswer.{FileAnswer}
+use Rattle.reading.specs.declared.reader.FileAnswer.the-variants as reader
+use Rattle.reading.specs.Reading.{Reading, refused, accepted, reading}
+use Rattle.reading.specs.Calls.{itemIn, itemsIn, orderIn}
 use Rattle.dual_problem.specs.Problem.{problem}
 use Rattle.dual_problem.specs.Items.{at}
 use Rattle.smo.specs.declared.ending.Ending.{Ending}
@@ -22,7 +23,7 @@ use Rattle.smo.specs.declared.train.Training.{Training}
 use Rattle.smo.specs.declared.train.Training.the-variants.{Refused, Ended}
 use Rattle.smo.specs.Run.{training}
 use Rattle.smo.specs.Answer.{trainedOf}
-use Rattle.listing.specs.Decimal.{decimal, signed}
+use Rattle.listing.specs.Decimal.{decimal, signedDecimal}
 
 -- `converged`, `stuck`, `spent`
 abbrev pub endingText : Ending → List ℕ
@@ -41,7 +42,7 @@ refusalLine number = (114 ∷ 101 ∷ 102 ∷ 117 ∷ 115 ∷ 101 ∷ 100 ∷ 32
 
 -- a space and a number
 abbrev pub field : ℤ → List ℕ
-field number = (32 ∷ []) ++ signed number
+field number = (32 ∷ []) ++ signedDecimal number
 
 -- "Line one: ending, steps, b_low, b_up."
 unfoldable pub resultLine : Trained → List ℕ
@@ -52,7 +53,7 @@ unfoldable pub itemLine : ℕ → Label → ℕ → List ℕ
 itemLine number label multiplier = decimal number ++ ((32 ∷ labelSign label ∷ 32 ∷ []) ++ (decimal multiplier ++ (10 ∷ [])))
 
 -- how many items what a file is read as has
-abbrev pub itemCount : Outcome → ℕ
+abbrev pub itemCount : FileAnswer → ℕ
 itemCount (reader.Refused why) = 0
 itemCount (reader.Accepted parameters count) = count
 
@@ -80,7 +81,7 @@ listingIn answer file multipliers = listing answer (orderIn (reading file)) (ite
 
 -- what a file prints, by what it is read as: training's own answer and multipliers
 unfoldable pub listingOf : Reading → List ℕ
-listingOf (refused number) = listing (Refused (record { number = number })) [] [] (at [])
+listingOf (refused number) = listing (Refused (refusal number)) [] [] (at [])
 listingOf (accepted p order items) =
     listing (Ended (trainedOf (problem p items) (training (problem p items) (p .tolerance) (p .budget)))) order items
     (at (training (problem p items) (p .tolerance) (p .budget) .multipliers))

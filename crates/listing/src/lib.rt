@@ -1,4 +1,4 @@
-// The listing that the training program prints, as bytes in a lent buffer.
+// The listing that the training program prints, as bytes in a lent buffer. It calls `lookahead`, and may use the libraries below it.
 
 pub mod lines;
 pub mod list;

@@ -10,10 +10,10 @@ use super::number::put_number;
 use super::number::put_signed;
 use super::text::put_byte;
 use super::text::put_text;
-use smo::ending::Ending;
-use smo::run::Trained;
+use lookahead::Ending;
+use lookahead::Trained;
+use reading::reader::fetch_label;
 use training_file::item::Label;
-use training_file::reader::fetch;
 use training_file::refusal::Refusal;
 
 // A refusal is the whole listing: its number alone.
@@ -91,14 +91,14 @@ pub fn put_items(
     out: &mut [u8],
     at: usize,
 ) -> usize
-    requires { ⌜ Listed (now file) (now order) count × (count ≤ length (now multipliers)) × Room (joined count (lineIn (now file) (now multipliers))) at (now out) ⌝ }
+    requires { ⌜ Listed (now file) (now order) count × (count ≤ length (now multipliers))
+        × Room (joined count (lineIn (now file) (now multipliers))) at (now out) ⌝ }
     ensures { λ r. ⌜ Put (joined count (lineIn (now (file .entry)) (now (multipliers .entry)))) at (now (out .entry)) (now (out .exit)) r ⌝ }
 {
     let mut end = at;
     let mut i = 0;
     while i < count {
-        let item = fetch(file, order, i);
-        let label = item.label;
+        let label = fetch_label(file, order, i);
         end = put_item(out, end, order[i], label, multipliers[i]);
         i += 1;
     }

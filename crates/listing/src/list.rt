@@ -4,43 +4,46 @@ ghost use mathlib.Core.List.{_++_};
 ghost use mathlib.Core.Path.{_≡_};
 ghost use Prim.Native.Nat.{_≤_};
 ghost use lib.ListN.{length, drop};
-ghost use Rattle.training_file.specs.Reading.{reading};
-ghost use Rattle.training_file.specs.Calls.{itemsIn};
+ghost use Rattle.reading.specs.Reading.{reading};
+ghost use Rattle.reading.specs.Calls.{itemsIn};
 ghost use Rattle.listing.specs.Listing.{itemCount, listingIn, listingOf};
 ghost use Rattle.listing.specs.Put.{Put, Room};
 use super::lines::put_items;
 use super::lines::put_refusal;
 use super::lines::put_result;
-use smo::run::Trained;
-use smo::train::Training;
-use smo::train::train;
-use training_file::reader;
-use training_file::reader::Outcome;
+use lookahead::FileAnswer;
+use lookahead::Trained;
+use lookahead::Training;
+use lookahead::read::read;
+use lookahead::train::train;
+use training_file::item::Item;
 
 // How many items a file has; a file that is refused has none.
-fn item_count(outcome: Outcome) -> usize
-    ensures { λ r. ⌜ r ≡ itemCount outcome ⌝ }
+fn item_count(answer: FileAnswer) -> usize
+    ensures { λ r. ⌜ r ≡ itemCount answer ⌝ }
 {
-    match outcome {
-        Outcome::Refused(_) => 0,
-        Outcome::Accepted(_, count) => count,
+    match answer {
+        FileAnswer::Refused(_) => 0,
+        FileAnswer::Accepted(_, count) => count,
     }
 }
 
 // The result line and a line for each item, in chain order.
 fn put_trained(file: &[u8], trained: Trained, multipliers: &[u32], out: &mut [u8]) -> usize
-    requires { ⌜ (length (itemsIn (reading (now file))) ≤ length (now multipliers)) × Room (listingIn (Training.Ended trained) (now file) (now multipliers)) 0 (now out) ⌝ }
+    requires { ⌜ (length (itemsIn (reading (now file))) ≤ length (now multipliers))
+        × Room (listingIn (Training.Ended trained) (now file) (now multipliers)) 0 (now out) ⌝ }
     ensures { λ r. ⌜ Put (listingIn (Training.Ended trained) (now (file .entry)) (now (multipliers .entry))) 0 (now (out .entry)) (now (out .exit)) r ⌝ }
 {
-    let mut order = [0u16; 256];
-    let count = item_count(reader::order(file, &mut order));
+    let mut order = [0u16; Item::MAX_COUNT];
+    let count = item_count(read(file, &mut order));
     let end = put_result(out, 0, trained);
     put_items(file, &order, count, multipliers, out, end)
 }
 
 // What an answer of training prints.
 fn put_training(file: &[u8], training: Training, multipliers: &[u32], out: &mut [u8]) -> usize
-    requires { ⌜ (length (itemsIn (reading (now file))) ≤ length (now multipliers)) × Room (listingIn training (now file) (now multipliers)) 0 (now out) ⌝ }
+    requires { ⌜ (length (itemsIn (reading (now file))) ≤ length (now multipliers))
+        × Room (listingIn training (now file) (now multipliers)) 0 (now out) ⌝ }
     ensures { λ r. ⌜ Put (listingIn training (now (file .entry)) (now (multipliers .entry))) 0 (now (out .entry)) (now (out .exit)) r ⌝ }
 {
     match training {
@@ -54,10 +57,11 @@ pub const PLACES: usize = 4_096;
 
 // Reads and trains any file, and writes its listing into the buffer's first places; later places keep theirs.
 pub fn list(file: &[u8], out: &mut [u8; PLACES]) -> usize
-    ensures { λ r. ⌜ (r ≡ length (listingOf (reading (now (file .entry))))) × (now (out .exit) ≡ listingOf (reading (now (file .entry))) ++ drop r (now (out .entry))) ⌝ }
+    ensures end { λ r. ⌜ r ≡ length (listingOf (reading (now (file .entry)))) ⌝ }
+    ensures buffer { λ r. ⌜ now (out .exit) ≡ listingOf (reading (now (file .entry))) ++ drop r (now (out .entry)) ⌝ }
 {
-    let mut multipliers = [0u32; 256];
-    let mut gradient = [0i64; 256];
+    let mut multipliers = [0u32; Item::MAX_COUNT];
+    let mut gradient = [0i64; Item::MAX_COUNT];
     let training = train(file, &mut multipliers, &mut gradient);
     put_training(file, training, &multipliers, out)
 }

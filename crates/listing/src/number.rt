@@ -1,6 +1,6 @@
 // Numbers in decimal, without leading zeros.
 
-ghost use Rattle.listing.specs.Decimal.{decimal, signed};
+ghost use Rattle.listing.specs.Decimal.{decimal, signedDecimal};
 ghost use Rattle.listing.specs.Put.{Put, Room};
 use super::text::put_byte;
 
@@ -18,8 +18,8 @@ pub fn put_number(out: &mut [u8], at: usize, number: u64) -> usize
 
 // A negative number is -1 less some k, and k + 1 is what follows its sign: no negation could leave the range.
 pub fn put_signed(out: &mut [u8], at: usize, number: i64) -> usize
-    requires { ⌜ Room (signed number) at (now out) ⌝ }
-    ensures { λ r. ⌜ Put (signed number) at (now (out .entry)) (now (out .exit)) r ⌝ }
+    requires { ⌜ Room (signedDecimal number) at (now out) ⌝ }
+    ensures { λ r. ⌜ Put (signedDecimal number) at (now (out .entry)) (now (out .exit)) r ⌝ }
 {
     if 0 <= number {
         return put_number(out, at, number as u64);

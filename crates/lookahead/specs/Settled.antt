@@ -9,27 +9,28 @@ use Rattle.integers.specs.Sum.{sum}
 use Rattle.integers.specs.Extremum.{extreme, first}
 use Rattle.integers.specs.Places.{all}
 use Rattle.integers.specs.Written.{written}
+use Rattle.training_file.specs.Refusal.{refusal}
 use Rattle.training_file.specs.Parameters.{parametersAllowed}
-use Rattle.training_file.specs.Header.{headerAllowed, lengthAllowed}
-use Rattle.training_file.specs.Item.{allBelow, featuresAllowed}
+use Rattle.training_file.specs.Item.{featuresAllowed}
 use Rattle.training_file.specs.Record.{recordAllowed}
-use Rattle.training_file.specs.Chain.{walk}
-use Rattle.training_file.specs.Reading.{Reading, refused, accepted, every, labelled, reading}
-use Rattle.dual_problem.specs.Problem.{gradient, double-sum, objective}
-use Rattle.dual_problem.specs.Items.{at}
-use Rattle.dual_problem.specs.Certify.{certifying}
+use Rattle.reading.specs.Header.{headerAllowed, lengthAllowed}
+use Rattle.reading.specs.Chain.{walk}
+use Rattle.reading.specs.Reading.{Reading, refused, accepted, every, labelled, reading}
 use Rattle.dual_problem.specs.declared.certify.Certified.{Certified}
 use Rattle.dual_problem.specs.declared.certify.Certified.the-variants as certified
+use Rattle.dual_problem.specs.Problem.{gradient, doubleSum, objective}
+use Rattle.dual_problem.specs.Items.{at}
+use Rattle.dual_problem.specs.Certify.{certifying}
+use Rattle.smo_step.specs.Step.{amount, firstCandidate, workingPair}
 use Rattle.smo.specs.declared.ending.Ending.{Ending}
 use Rattle.smo.specs.declared.ending.Ending.the-variants.{Converged, Stuck, Spent}
 use Rattle.smo.specs.declared.train.Training.the-variants.{Ended}
-use Rattle.smo.specs.Step.{amount, first-candidate, working-pair}
 use Rattle.smo.specs.Run.{next, run}
-use Rattle.smo.specs.Train.{Left, trainRead}
+use Rattle.smo.specs.Train.{TrainingLeft, trainFile}
 use Rattle.lookahead.specs.declared.classify.Class.the-variants.{LookedUp, PassedOver}
 use Rattle.lookahead.specs.declared.classify.Classified.{Classified}
 use Rattle.lookahead.specs.declared.classify.Classified.the-variants.{Is}
-use Rattle.lookahead.specs.Classify.{classifying, score}
+use Rattle.lookahead.specs.Classify.{classifying, score, scoreWith}
 
 -- ---- the files, byte for byte: d 1; kernel, S, c, t, budget (each below 256); records chained in their order, by label and feature byte
 abbrev header : (m kernel S c t budget : ℕ) → List ℕ
@@ -41,11 +42,11 @@ abbrev stored : (next label feature : ℕ) → List ℕ
 stored next label feature = next ∷ 0 ∷ label ∷ 0 ∷ feature ∷ replicate 15 0
 
 -- "±1 file": item + with feature 1, item − with feature −1, whose byte is 255
-abbrev plus-minus : (kernel S c t budget : ℕ) → List ℕ
-plus-minus kernel S c t budget = header 2 kernel S c t budget ++ stored 2 1 1 ++ stored 0 2 255
+abbrev plusMinus : (kernel S c t budget : ℕ) → List ℕ
+plusMinus kernel S c t budget = header 2 kernel S c t budget ++ stored 2 1 1 ++ stored 0 2 255
 
-abbrev both-one : List ℕ
-both-one = header 2 0 10 7 0 50 ++ stored 2 1 1 ++ stored 0 2 1
+abbrev bothOne : List ℕ
+bothOne = header 2 0 10 7 0 50 ++ stored 2 1 1 ++ stored 0 2 1
 
 abbrev three : List ℕ
 three = header 3 0 1 2 0 50 ++ stored 2 1 10 ++ stored 3 2 246 ++ stored 0 2 10
@@ -59,8 +60,8 @@ pub data Case : Type 0 where
   -- the file, the multipliers, the word; the answer and the value
   classifies : List ℕ → List ℕ → List ℤ → Classified → ℤ → Case
 
-abbrev trained : List ℕ → Left
-trained file = trainRead (reading file) (replicate 3 9) (replicate 3 (pos 9))
+abbrev trained : List ℕ → TrainingLeft
+trained file = trainFile file (replicate 3 9) (replicate 3 (pos 9))
 
 abbrev value : Reading → List ℕ → List ℤ → ℤ
 value (refused number) a word = pos 0
@@ -76,30 +77,27 @@ abbrev pub AllHold : List Case → Type 0
 AllHold [] = Unit {0}
 AllHold (c ∷ cs) = Holds c × AllHold cs
 
-abbrev refusal : ℕ → Certified
-refusal number = certified.Refused (record { number = number })
-
-abbrev pub settled-examples : List Case
-settled-examples =
-    trains (plus-minus 0 10 100 0 50) Converged 1 (pos 0) (pos 0) (5 ∷ 5 ∷ 9 ∷ [])  -- P1
-    ∷ trains (plus-minus 0 10 3 0 50) Converged 1 (negsuc 3) (pos 4) (3 ∷ 3 ∷ 9 ∷ [])  -- P2
-    ∷ trains (plus-minus 0 1 10 0 50) Stuck 0 (pos 1) (negsuc 0) (0 ∷ 0 ∷ 9 ∷ [])  -- P3
-    ∷ trains (plus-minus 0 1 10 1 50) Converged 0 (pos 1) (negsuc 0) (0 ∷ 0 ∷ 9 ∷ [])  -- P4
-    ∷ trains (plus-minus 0 1 10 0 0) Stuck 0 (pos 1) (negsuc 0) (0 ∷ 0 ∷ 9 ∷ [])  -- P5
-    ∷ trains (plus-minus 0 10 100 0 0) Spent 0 (pos 10) (negsuc 9) (0 ∷ 0 ∷ 9 ∷ [])  -- P6
-    ∷ trains both-one Converged 1 (negsuc 9) (pos 10) (7 ∷ 7 ∷ 9 ∷ [])  -- P7
-    ∷ trains (plus-minus 1 16 100 0 50) Converged 1 (pos 0) (pos 0) (4 ∷ 4 ∷ 9 ∷ [])  -- P8
+abbrev pub settledExamples : List Case
+settledExamples =
+    trains (plusMinus 0 10 100 0 50) Converged 1 (pos 0) (pos 0) (5 ∷ 5 ∷ 9 ∷ [])  -- P1
+    ∷ trains (plusMinus 0 10 3 0 50) Converged 1 (negsuc 3) (pos 4) (3 ∷ 3 ∷ 9 ∷ [])  -- P2
+    ∷ trains (plusMinus 0 1 10 0 50) Stuck 0 (pos 1) (negsuc 0) (0 ∷ 0 ∷ 9 ∷ [])  -- P3
+    ∷ trains (plusMinus 0 1 10 1 50) Converged 0 (pos 1) (negsuc 0) (0 ∷ 0 ∷ 9 ∷ [])  -- P4
+    ∷ trains (plusMinus 0 1 10 0 0) Stuck 0 (pos 1) (negsuc 0) (0 ∷ 0 ∷ 9 ∷ [])  -- P5
+    ∷ trains (plusMinus 0 10 100 0 0) Spent 0 (pos 10) (negsuc 9) (0 ∷ 0 ∷ 9 ∷ [])  -- P6
+    ∷ trains bothOne Converged 1 (negsuc 9) (pos 10) (7 ∷ 7 ∷ 9 ∷ [])  -- P7
+    ∷ trains (plusMinus 1 16 100 0 50) Converged 1 (pos 0) (pos 0) (4 ∷ 4 ∷ 9 ∷ [])  -- P8
     ∷ trains three Converged 1 (pos 1) (pos 1) (2 ∷ 0 ∷ 2 ∷ [])  -- P9
-    ∷ certifies (plus-minus 0 10 100 0 50) (0 ∷ 0 ∷ []) (certified.Accepted (record { lower = pos 10; upper = negsuc 9 }))  -- P10
-    ∷ certifies (plus-minus 0 10 100 0 50) (5 ∷ 4 ∷ []) (refusal 8)  -- P11
-    ∷ certifies (plus-minus 0 10 100 0 50) (101 ∷ 100 ∷ []) (refusal 7)
-    ∷ classifies (plus-minus 0 10 100 0 50) (5 ∷ 5 ∷ []) (pos 3 ∷ []) (Is LookedUp) (pos 60)  -- P12
-    ∷ classifies (plus-minus 0 10 100 0 50) (5 ∷ 5 ∷ []) (pos 0 ∷ []) (Is PassedOver) (pos 0)
+    ∷ certifies (plusMinus 0 10 100 0 50) (0 ∷ 0 ∷ []) (certified.Found (record { lower = pos 10; upper = negsuc 9 }))  -- P10
+    ∷ certifies (plusMinus 0 10 100 0 50) (5 ∷ 4 ∷ []) (certified.Refused (refusal 8))  -- P11
+    ∷ certifies (plusMinus 0 10 100 0 50) (101 ∷ 100 ∷ []) (certified.Refused (refusal 7))
+    ∷ classifies (plusMinus 0 10 100 0 50) (5 ∷ 5 ∷ []) (pos 3 ∷ []) (Is LookedUp) (pos 60)  -- P12
+    ∷ classifies (plusMinus 0 10 100 0 50) (5 ∷ 5 ∷ []) (pos 0 ∷ []) (Is PassedOver) (pos 0)
     ∷ []
 
-pub settled : AllHold settled-examples
+pub settled : AllHold settledExamples
 unfolding
-    reading lengthAllowed headerAllowed parametersAllowed walk every recordAllowed featuresAllowed allBelow labelled sum extreme first all written gradient double-sum objective amount first-candidate working-pair next run score
+    reading lengthAllowed headerAllowed parametersAllowed walk every recordAllowed featuresAllowed labelled sum extreme first all written gradient doubleSum objective amount firstCandidate workingPair next run scoreWith
 settled = (
   (refl, refl),
   (

@@ -1,8 +1,8 @@
 // Certifying, as the public library has it.
 
 ghost use mathlib.Core.Path.{_≡_};
-ghost use Rattle.training_file.specs.Reading.{reading};
-ghost use Rattle.dual_problem.specs.Certify.{Certain, certifying};
+ghost use Rattle.reading.specs.Reading.{reading};
+ghost use Rattle.dual_problem.specs.Certify.{CertifiedDistance, certifying};
 use dual_problem::certify;
 use dual_problem::certify::Certified;
 
@@ -10,7 +10,7 @@ use dual_problem::certify::Certified;
 // the best ones, which the second clause says.
 pub fn certify(file: &[u8], multipliers: &[u32]) -> Certified
     ensures answer { λ r. ⌜ r ≡ certifying (now (file .entry)) (now (multipliers .entry)) ⌝ }
-    ensures distance { λ r. ⌜ Certain (reading (now (file .entry))) (now (multipliers .entry)) r ⌝ }
+    ensures distance { λ r. ⌜ CertifiedDistance (reading (now (file .entry))) (now (multipliers .entry)) r ⌝ }
 {
     certify::certify(file, multipliers)
 }

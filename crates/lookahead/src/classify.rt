@@ -1,27 +1,23 @@
 // Classifying: whether a word is one to be looked up, by a training file and multipliers (document 01, "The step").
 
 ghost use mathlib.Core.Path.{_≡_};
-ghost use Prim.Native.Nat.{_≤_};
-ghost use lib.ListN.{length};
-ghost use Rattle.training_file.specs.Reading.{reading};
-ghost use Rattle.training_file.specs.AcceptedLaws.{Ranges};
-ghost use Rattle.training_file.specs.Calls.{itemsIn};
-ghost use Rattle.dual_problem.specs.Items.{Listed, Prepared, at};
-ghost use Rattle.lookahead.specs.Classify.{classOf, classifyItems, classifying, score};
+ghost use Rattle.training_file.specs.Parameters.{Ranges};
+ghost use Rattle.reading.specs.Reading.{reading};
+ghost use Rattle.reading.specs.Calls.{itemsIn};
+ghost use Rattle.dual_problem.specs.Items.{Listed, at};
+ghost use Rattle.lookahead.specs.Classify.{Scorable, classOf, classifyItems, classifying, scoreWith};
 use super::word::word_allowed;
 use super::word::word_item;
+use dual_problem::certify::Thresholds;
 use dual_problem::certify::find_thresholds;
 use dual_problem::gradient::weighed_sum;
-use dual_problem::multipliers;
 use dual_problem::multipliers::Judgement;
 use dual_problem::multipliers::judge;
+use reading::reader;
+use reading::reader::FileAnswer;
+use training_file::item::Item;
 use training_file::parameters::Parameters;
-use training_file::reader;
-use training_file::reader::Outcome;
 use training_file::refusal::Refusal;
-
-// The refusal that the caller can cause by a word's features.
-pub const FEATURE: u8 = 9;
 
 // What classifying says of a word. A label is what the log says of one, so this is an enum of its own.
 pub enum Class {
@@ -46,19 +42,20 @@ pub enum Classified {
     Is(Class),
 }
 
-// The doubled score of a word. Both thresholds are worked out here, from the multipliers given.
+// The doubled score of a word, with the thresholds of the multipliers, which the caller has worked out.
 fn find_score(
     file: &[u8],
     order: &[u16],
     count: usize,
     parameters: Parameters,
     multipliers: &[u32],
+    thresholds: Thresholds,
     word: &[i8],
 ) -> i64
-    requires { ⌜ Prepared (now file) (now order) count parameters (now multipliers) × (length (now word) ≤ 16) ⌝ }
-    ensures { λ r. ⌜ r ≡ score parameters (itemsIn (reading (now (file .entry)))) (at (now (multipliers .entry))) (now (word .entry)) ⌝ }
+    requires { ⌜ Scorable (now file) (now order) count parameters (now multipliers) thresholds (now word) ⌝ }
+    ensures { λ r.
+        ⌜ r ≡ scoreWith parameters (itemsIn (reading (now (file .entry)))) (at (now (multipliers .entry))) thresholds (now (word .entry)) ⌝ }
 {
-    let thresholds = find_thresholds(file, order, count, parameters, multipliers);
     let x = word_item(word);
     let sum = weighed_sum(file, order, count, parameters, multipliers, x);
     2 * sum - (thresholds.lower + thresholds.upper)
@@ -77,19 +74,26 @@ fn classify_read(
     requires { ⌜ Listed (now file) (now order) count × Ranges parameters ⌝ }
     ensures { λ r. ⌜ r ≡ classifyItems parameters (itemsIn (reading (now (file .entry)))) (now (multipliers .entry)) (now (word .entry)) ⌝ }
 {
-    if word.len() != parameters.features {
-        return Classified::Refused(Refusal {
-            number: multipliers::COUNT,
-        });
+    if word.len() != parameters.used {
+        return Classified::Refused(Refusal::LIST_LENGTH);
     }
     let judgement = judge(file, order, count, parameters, multipliers);
     let Judgement::Feasible = judgement else {
         return Classified::Refused(judgement.refusal());
     };
     if !word_allowed(word) {
-        return Classified::Refused(Refusal { number: FEATURE });
+        return Classified::Refused(Refusal::WORD_FEATURE);
     }
-    let score = find_score(file, order, count, parameters, multipliers, word);
+    let thresholds = find_thresholds(file, order, count, parameters, multipliers);
+    let score = find_score(
+        file,
+        order,
+        count,
+        parameters,
+        multipliers,
+        thresholds,
+        word,
+    );
     Classified::Is(Class::of_score(score))
 }
 
@@ -97,10 +101,10 @@ fn classify_read(
 pub fn classify(file: &[u8], multipliers: &[u32], word: &[i8]) -> Classified
     ensures { λ r. ⌜ r ≡ classifying (now (file .entry)) (now (multipliers .entry)) (now (word .entry)) ⌝ }
 {
-    let mut order = [0u16; 256];
-    let outcome = reader::order(file, &mut order);
-    let Outcome::Accepted(parameters, count) = outcome else {
-        return Classified::Refused(outcome.refusal());
+    let mut order = [0u16; Item::MAX_COUNT];
+    let answer = reader::order(file, &mut order);
+    let FileAnswer::Accepted(parameters, count) = answer else {
+        return Classified::Refused(answer.refusal());
     };
     classify_read(file, &order, count, parameters, multipliers, word)
 }

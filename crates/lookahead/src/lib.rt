@@ -1,6 +1,21 @@
-// What callers use: a training file is trained, multipliers of it are certified, and words are classified by them. Any bytes and any
-// lists are taken; what is wrong with them is answered by a number of document 01.
+// What callers use: a training file is read and trained, multipliers of it are certified, and words are classified by them. Any bytes
+// and any lists are taken; what is wrong with them is answered by a number of document 01. It may use every library below it.
+
 pub mod certify;
 pub mod classify;
+pub mod read;
 pub mod train;
 mod word;
+
+// The types of the answers, by the name of this library.
+pub use classify::Class;
+pub use classify::Classified;
+pub use dual_problem::certify::Certified;
+pub use dual_problem::certify::Thresholds;
+pub use reading::reader::FileAnswer;
+pub use smo::ending::Ending;
+pub use smo::run::Trained;
+pub use smo::train::Training;
+pub use training_file::parameters::Kernel;
+pub use training_file::parameters::Parameters;
+pub use training_file::refusal::Refusal;

@@ -3,6 +3,7 @@
 ghost use mathlib.Core.Path.{_≡_};
 ghost use Prim.Native.Nat.{_≤_};
 ghost use lib.ListN.{length};
+ghost use Rattle.training_file.specs.Layout.{featureCount};
 ghost use Rattle.lookahead.specs.Classify.{SameFeatures, wordAllowed};
 use training_file::item::Item;
 use training_file::item::Label;
@@ -23,10 +24,10 @@ pub fn word_allowed(word: &[i8]) -> bool
 
 // A word as an item, which the kernels compare with the file's: features past the word's are 0. No kernel looks at the label.
 pub fn word_item(word: &[i8]) -> Item
-    requires { ⌜ length (now word) ≤ 16 ⌝ }
+    requires { ⌜ length (now word) ≤ featureCount ⌝ }
     ensures { λ r. ⌜ SameFeatures (r .features) (now (word .entry)) ⌝ }
 {
-    let mut features = [0i8; 16];
+    let mut features = [0i8; Item::FEATURES];
     let mut i = 0;
     while i < word.len() {
         features[i] = word[i];

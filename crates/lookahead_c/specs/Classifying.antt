@@ -13,3 +13,11 @@ classifyNumber (Is class) = 0
 abbrev pub classifyFound : Classified → ℕ → ℕ
 classifyFound (Refused why) before = before
 classifyFound (Is class) before = classNumber class
+
+-- all that the caller sees after the call: the number answered, and the lent number
+pub record ClassifySeen : Type 0 where
+  pub number : ℕ
+  pub found : ℕ
+
+abbrev pub classifySeen : Classified → ℕ → ClassifySeen
+classifySeen answer before = record { number = classifyNumber answer; found = classifyFound answer before }

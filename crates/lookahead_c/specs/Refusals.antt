@@ -1,96 +1,25 @@
--- No refusal has the number 0, so that by the number alone a caller in C tells a refusal from an answer; and each call refuses with the
--- numbers that include/lookahead.h names for it, and no others. Assumes nothing.
-use mathlib.Core.Path.{_≡_, refl}
-use mathlib.Core.Bool.{Bool, true, false, cond, _&&_}
-use mathlib.Core.List.{List}
-use Prim.Native.Nat.{ℕ, _≤_}
-use native.Mathlib.Omega.{arith}
-use lib.Dec.{eqb, leb}
-use lib.IntN.{ℤ}
-use lib.ListN.{length}
-use Rattle.integers.specs.Places.{all}
-use Rattle.training_file.specs.declared.parameters.Parameters.{Parameters}
-use Rattle.training_file.specs.declared.item.Item.{Item}
-use Rattle.training_file.specs.Reading.{Reading, refused, accepted, reading}
-use Rattle.training_file.specs.ReadingLaws.{refused-within}
+-- The numbers with which each call can refuse, as include/lookahead.h names them. That no call refuses with another, nor with 0, so that
+-- by the number alone a caller in C tells a refusal from an answer, is in Refusals/Laws.antt. Assumes nothing.
+pub mod Laws
+use Prim.Native.Nat.{_≤_}
 use Rattle.dual_problem.specs.declared.certify.Certified.{Certified}
 use Rattle.dual_problem.specs.declared.certify.Certified.the-variants as certified
-use Rattle.dual_problem.specs.declared.multipliers.Judgement.{Judgement}
-use Rattle.dual_problem.specs.declared.multipliers.Judgement.the-variants as judged
-use Rattle.dual_problem.specs.Problem.{Problem, problem}
-use Rattle.dual_problem.specs.Items.{at}
-use Rattle.dual_problem.specs.Multipliers.{balance, is-zero, judgement}
-use Rattle.dual_problem.specs.Certify.{certifying, certifyJudged, certifyRead}
 use Rattle.smo.specs.declared.train.Training.{Training}
 use Rattle.smo.specs.declared.train.Training.the-variants as training
-use Rattle.smo.specs.Train.{Left, trainRead}
 use Rattle.lookahead.specs.declared.classify.Classified.{Classified}
 use Rattle.lookahead.specs.declared.classify.Classified.the-variants as classified
-use Rattle.lookahead.specs.Classify.{classifying, classifyItems, classifyJudged, classifyRead, wordAllowed}
 
--- what holds of both values holds of the one that a test picks
-picked : {A : Type 0} (Q : A → Type 0) (test : Bool) {x y : A} → Q x → Q y → Q (cond test x y)
-picked Q true p q = p
-picked Q false p q = q
-
--- ---- training: 1 to 6
+-- training: 1 to 6
 abbrev pub TrainRefusals : Training → Type 0
 TrainRefusals (training.Refused why) = (1 ≤ why .number) × (why .number ≤ 6)
 TrainRefusals (training.Ended result) = Unit {0}
 
-pub train-refusals : (file a : List ℕ) (g : List ℤ) → TrainRefusals (trainRead (reading file) a g .answer)
-train-refusals file a g = by (reading file) refl where
-  by : (x : Reading) → reading file ≡ x → TrainRefusals (trainRead x a g .answer)
-  by (refused number) e = let n = refused-within file number e in (n .0, omega arith)
-  by (accepted p order items) e =
-      picked (λ (left : Left). TrainRefusals (left .answer)) (leb (length items) (length a) && leb (length items) (length g)) tt (omega arith, omega arith)
-
--- ---- judged multipliers: 6 to 8
-abbrev JudgedRefusals : Judgement → Type 0
-JudgedRefusals (judged.Refused why) = (6 ≤ why .number) × (why .number ≤ 8)
-JudgedRefusals judged.Feasible = Unit {0}
-
-judged-refusals : (P : Problem) (a : List ℕ) → JudgedRefusals (judgement P a)
-judged-refusals P a =
-    picked JudgedRefusals (eqb (length a) (P .count))
-    (picked JudgedRefusals (all (P .count) (λ i. leb (at a i) (P .ceiling i)))
-    (picked JudgedRefusals (is-zero (balance P (at a))) tt (omega arith, omega arith))
-    (omega arith, omega arith))
-    (omega arith, omega arith)
-
--- ---- certifying: 1 to 8
+-- certifying: 1 to 8
 abbrev pub CertifyRefusals : Certified → Type 0
 CertifyRefusals (certified.Refused why) = (1 ≤ why .number) × (why .number ≤ 8)
-CertifyRefusals (certified.Accepted thresholds) = Unit {0}
+CertifyRefusals (certified.Found thresholds) = Unit {0}
 
-certify-judged : (P : Problem) (a : List ℕ) (j : Judgement) → JudgedRefusals j → CertifyRefusals (certifyJudged P a j)
-certify-judged P a (judged.Refused why) n = (omega arith, n .1)
-certify-judged P a judged.Feasible n = tt
-
-pub certify-refusals : (file a : List ℕ) → CertifyRefusals (certifying file a)
-certify-refusals file a = by (reading file) refl where
-  by : (x : Reading) → reading file ≡ x → CertifyRefusals (certifyRead x a)
-  by (refused number) e = let n = refused-within file number e in (n .0, omega arith)
-  by (accepted p order items) e = certify-judged (problem p items) a (judgement (problem p items) a) (judged-refusals (problem p items) a)
-
--- ---- classifying: 1 to 9
+-- classifying: 1 to 9
 abbrev pub ClassifyRefusals : Classified → Type 0
 ClassifyRefusals (classified.Refused why) = (1 ≤ why .number) × (why .number ≤ 9)
 ClassifyRefusals (classified.Is class) = Unit {0}
-
-module _ (p : Parameters) (items : List Item) (a : List ℕ) (word : List ℤ) where
-  classify-judged : (j : Judgement) → JudgedRefusals j → ClassifyRefusals (classifyJudged p items a word j)
-  classify-judged (judged.Refused why) n = (omega arith, omega arith)
-  classify-judged judged.Feasible n = picked ClassifyRefusals (wordAllowed word) tt (omega arith, omega arith)
-
-  classify-items : ClassifyRefusals (classifyItems p items a word)
-  classify-items =
-      picked ClassifyRefusals (eqb (length word) (p .features))
-      (classify-judged (judgement (problem p items) a) (judged-refusals (problem p items) a))
-      (omega arith, omega arith)
-
-pub classify-refusals : (file a : List ℕ) (word : List ℤ) → ClassifyRefusals (classifying file a word)
-classify-refusals file a word = by (reading file) refl where
-  by : (x : Reading) → reading file ≡ x → ClassifyRefusals (classifyRead x a word)
-  by (refused number) e = let n = refused-within file number e in (n .0, omega arith)
-  by (accepted p order items) e = classify-items p items a word

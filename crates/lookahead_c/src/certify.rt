@@ -2,8 +2,8 @@
 
 ghost use mathlib.Core.Path.{_≡_};
 ghost use Rattle.dual_problem.specs.Certify.{certifying};
-ghost use Rattle.lookahead_c.specs.Certifying.{certifyFound, certifyNumber};
-use dual_problem::certify::Certified;
+ghost use Rattle.lookahead_c.specs.Certifying.{certifySeen};
+use lookahead::Certified;
 
 // Both thresholds are written, or neither: a refusal leaves them as they were.
 #[no_mangle]
@@ -13,13 +13,14 @@ pub extern "C" fn lookahead_certify(
     lower: &mut i64,
     upper: &mut i64,
 ) -> u8
-    ensures number { λ r. ⌜ r ≡ certifyNumber (certifying (now (file .entry)) (now (multipliers .entry))) ⌝ }
-    ensures found { λ r. ⌜ record { lower = now (lower .exit); upper = now (upper .exit) } ≡ certifyFound (certifying (now (file .entry)) (now (multipliers .entry))) (record { lower = now (lower .entry); upper = now (upper .entry) }) ⌝ }
+    ensures { λ r.
+        ⌜ record { number = r; found = record { lower = now (lower .exit); upper = now (upper .exit) } }
+        ≡ certifySeen (certifying (now (file .entry)) (now (multipliers .entry))) (record { lower = now (lower .entry); upper = now (upper .entry) }) ⌝ }
 {
     let certified = lookahead::certify::certify(file, multipliers);
     match certified {
         Certified::Refused(refusal) => refusal.number,
-        Certified::Accepted(thresholds) => {
+        Certified::Found(thresholds) => {
             // The checker follows a signed number that is written from a local, not from a field.
             let b_low = thresholds.lower;
             let b_up = thresholds.upper;

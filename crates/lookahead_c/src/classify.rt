@@ -2,9 +2,9 @@
 
 ghost use mathlib.Core.Path.{_≡_};
 ghost use Rattle.lookahead.specs.Classify.{classifying};
-ghost use Rattle.lookahead_c.specs.Classifying.{classifyFound, classifyNumber};
+ghost use Rattle.lookahead_c.specs.Classifying.{classifySeen};
 use super::numbering::class_number;
-use lookahead::classify::Classified;
+use lookahead::Classified;
 
 // The class is written only where there is one: a refusal leaves it as it was.
 #[no_mangle]
@@ -14,8 +14,9 @@ pub extern "C" fn lookahead_classify(
     word: &[i8],
     class: &mut u8,
 ) -> u8
-    ensures number { λ r. ⌜ r ≡ classifyNumber (classifying (now (file .entry)) (now (multipliers .entry)) (now (word .entry))) ⌝ }
-    ensures found { λ r. ⌜ now (class .exit) ≡ classifyFound (classifying (now (file .entry)) (now (multipliers .entry)) (now (word .entry))) (now (class .entry)) ⌝ }
+    ensures { λ r.
+        ⌜ record { number = r; found = now (class .exit) }
+        ≡ classifySeen (classifying (now (file .entry)) (now (multipliers .entry)) (now (word .entry))) (now (class .entry)) ⌝ }
 {
     let classified = lookahead::classify::classify(file, multipliers, word);
     match classified {

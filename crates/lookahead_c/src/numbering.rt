@@ -2,8 +2,8 @@
 
 ghost use mathlib.Core.Path.{_≡_};
 ghost use Rattle.lookahead_c.specs.Numbering.{classNumber, endingNumber};
-use lookahead::classify::Class;
-use smo::ending::Ending;
+use lookahead::Class;
+use lookahead::Ending;
 
 pub fn ending_number(ending: Ending) -> u8
     ensures { λ r. ⌜ r ≡ endingNumber ending ⌝ }

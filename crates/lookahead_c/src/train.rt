@@ -1,11 +1,10 @@
 // Training, for C.
 
 ghost use mathlib.Core.Path.{_≡_};
-ghost use Rattle.training_file.specs.Reading.{reading};
-ghost use Rattle.smo.specs.Train.{trainRead};
-ghost use Rattle.lookahead_c.specs.Training.{trainFound, trainNumber};
+ghost use Rattle.smo.specs.Train.{trainFile};
+ghost use Rattle.lookahead_c.specs.Training.{trainSeen};
 use super::numbering::ending_number;
-use smo::train::Training;
+use lookahead::Training;
 
 // The lists are the library's to fill; the four numbers are written here, and only after the library has refused nothing.
 #[no_mangle]
@@ -18,9 +17,15 @@ pub extern "C" fn lookahead_train(
     lower: &mut i64,
     upper: &mut i64,
 ) -> u8
-    ensures number { λ r. ⌜ r ≡ trainNumber (trainRead (reading (now (file .entry))) (now (multipliers .entry)) (now (gradient .entry)) .answer) ⌝ }
-    ensures lists { λ r. ⌜ (now (multipliers .exit) ≡ trainRead (reading (now (file .entry))) (now (multipliers .entry)) (now (gradient .entry)) .multipliers) × (now (gradient .exit) ≡ trainRead (reading (now (file .entry))) (now (multipliers .entry)) (now (gradient .entry)) .gradient) ⌝ }
-    ensures found { λ r. ⌜ record { ending = now (ending .exit); steps = now (steps .exit); lower = now (lower .exit); upper = now (upper .exit) } ≡ trainFound (trainRead (reading (now (file .entry))) (now (multipliers .entry)) (now (gradient .entry)) .answer) (record { ending = now (ending .entry); steps = now (steps .entry); lower = now (lower .entry); upper = now (upper .entry) }) ⌝ }
+    ensures { λ r.
+        ⌜ record {
+          number = r;
+          multipliers = now (multipliers .exit);
+          gradient = now (gradient .exit);
+          found = record { ending = now (ending .exit); steps = now (steps .exit); lower = now (lower .exit); upper = now (upper .exit) };
+        }
+        ≡ trainSeen (trainFile (now (file .entry)) (now (multipliers .entry)) (now (gradient .entry)))
+        (record { ending = now (ending .entry); steps = now (steps .entry); lower = now (lower .entry); upper = now (upper .entry) }) ⌝ }
 {
     let training = lookahead::train::train(file, multipliers, gradient);
     match training {

@@ -2,13 +2,13 @@
 // theorem `settled`; this shows the compiled code give them.
 
 ghost use Prim.Native.Nat.{_<_};
-use dual_problem::certify::Certified;
-use lookahead::classify::Class;
-use lookahead::classify::Classified;
-use smo::ending::Ending;
-use smo::run::Trained;
-use smo::train::Training;
-use training_file::refusal::Refusal;
+use lookahead::Certified;
+use lookahead::Class;
+use lookahead::Classified;
+use lookahead::Ending;
+use lookahead::Refusal;
+use lookahead::Trained;
+use lookahead::Training;
 
 // Two records, and three.
 const TWO: usize = 72;
@@ -119,7 +119,7 @@ fn certify(name: &[u8], file: &[u8], multipliers: &[u32], lower: i64, upper: i64
         Certified::Refused(refusal) => {
             show_refusal(refusal);
         }
-        Certified::Accepted(thresholds) => {
+        Certified::Found(thresholds) => {
             show_thresholds(thresholds.lower, thresholds.upper, lower, upper);
         }
     }

@@ -4,20 +4,24 @@ pub mod Laws
 use mathlib.Core.Bool.{Bool, true, false}
 use mathlib.Core.List.{List}
 use Prim.Native.Nat.{ℕ, _*_}
-use lib.IntN.{pos, _+ℤ_}
+use lib.IntN.{ℤ, pos, _+ℤ_}
 use lib.Signed.{leZ}
-use Rattle.dual_problem.specs.Problem.{Problem, b-up, b-low}
-use Rattle.dual_problem.specs.Items.{at}
+use Rattle.integers.specs.Written.{written}
+use Rattle.training_file.specs.declared.parameters.Parameters.{Parameters}
+use Rattle.dual_problem.specs.declared.thresholds.Extremes.{Extremes}
+use Rattle.dual_problem.specs.Problem.{Problem, bUp, bLow, gradient}
+use Rattle.dual_problem.specs.Items.{at, problemOf}
+use Rattle.dual_problem.specs.Thresholds.{bestValue}
+use Rattle.smo_step.specs.declared.pair.Pair.{Pair}
+use Rattle.smo_step.specs.declared.pair.Pair.the-variants as pair
+use Rattle.smo_step.specs.Step.{workingPair}
+use Rattle.smo_step.specs.Pair.{pairOf}
 use Rattle.smo.specs.declared.ending.Ending.{Ending}
 use Rattle.smo.specs.declared.ending.Ending.the-variants.{Converged, Stuck, Spent}
-use Rattle.smo.specs.declared.pair.Pair.{Pair}
-use Rattle.smo.specs.declared.pair.Pair.the-variants as pair
 use Rattle.smo.specs.declared.run.Decision.{Decision}
 use Rattle.smo.specs.declared.run.Decision.the-variants.{Ends, Moves}
 use Rattle.smo.specs.declared.run.Trained.{Trained}
-use Rattle.smo.specs.Step.{working-pair}
-use Rattle.smo.specs.Pair.{pairOf}
-use Rattle.smo.specs.Run.{Outcome}
+use Rattle.smo.specs.Run.{Outcome, run, training}
 
 -- "1. if b_low ≤ b_up + 2 × t, the ending is converged; 2. if no pair moves, it is stuck"; else the working pair moves
 abbrev pub decided : Bool → Pair → Decision
@@ -26,13 +30,41 @@ decided false pair.Nothing = Ends Stuck
 decided false (pair.At i j) = Moves i j
 
 abbrev pub decision : Problem → ℕ → List ℕ → Decision
-decision P t a = decided (leZ (b-low P (at a)) (b-up P (at a) +ℤ pos (2 * t))) (pairOf (working-pair P a))
+decision P t a = decided (leZ (bLow P (at a)) (bUp P (at a) +ℤ pos (2 * t))) (pairOf (workingPair P a))
 
 -- the ending that a decision is; a pair that could move is left where the budget is spent
 abbrev pub decisionEnding : Decision → Ending
 decisionEnding (Ends ending) = ending
 decisionEnding (Moves i j) = Spent
 
--- "A trained result is the ending, steps, b_low and b_up."
+-- "A trained result is the ending, steps, b_low and b_up.": from what was found, and from an outcome
+abbrev pub trainedWith : Ending → ℕ → Extremes → Trained
+trainedWith ending steps found = record { ending = ending; steps = steps; lower = bestValue (found .low); upper = bestValue (found .up) }
+
 abbrev pub trainedOf : Problem → Outcome → Trained
-trainedOf P o = record { ending = o .ending; steps = o .steps; lower = b-low P (at (o .multipliers)); upper = b-up P (at (o .multipliers)) }
+trainedOf P o = record { ending = o .ending; steps = o .steps; lower = bLow P (at (o .multipliers)); upper = bUp P (at (o .multipliers)) }
+
+-- what a run leaves: its result, and both lists
+pub record RunLeft : Type 0 where
+  pub trained : Trained
+  pub multipliers : List ℕ
+  pub gradient : List ℤ
+
+-- with an outcome, a list of multipliers, and G in the first n places of the other list
+abbrev pub leftBy : Problem → ℕ → Outcome → List ℕ → List ℤ → RunLeft
+leftBy P n o a g = record { trained = trainedOf P o; multipliers = a; gradient = written n (gradient P (at (o .multipliers))) g }
+
+-- where the outcome's multipliers are the list, and where they stand in its first n places
+abbrev pub leftWhole : Problem → ℕ → Outcome → List ℤ → RunLeft
+leftWhole P n o g = leftBy P n o (o .multipliers) g
+
+abbrev pub leftFirst : Problem → ℕ → Outcome → List ℕ → List ℤ → RunLeft
+leftFirst P n o a g = leftBy P n o (written n (at (o .multipliers)) a) g
+
+-- the run on the items of a file, from the multipliers a
+abbrev pub runFrom : List ℕ → Parameters → ℕ → ℕ → List ℕ → List ℤ → RunLeft
+runFrom file p n limit a g = leftWhole (problemOf file p) n (run (problemOf file p) (p .tolerance) limit a) g
+
+-- training on the items of a file
+abbrev pub trainFrom : List ℕ → Parameters → ℕ → List ℕ → List ℤ → RunLeft
+trainFrom file p n a g = leftFirst (problemOf file p) n (training (problemOf file p) (p .tolerance) (p .budget)) a g

@@ -1,14 +1,4 @@
--- Document 01, "The step": the working pair, the amount of a move, the move, the run; and what holds of them. Assumes nothing.
-pub mod Step
-pub mod State
-pub mod Move
-pub mod Amount
-pub mod WorkingPair
-pub mod Stuck
+-- Document 01, "The step": the run, and training. Laws of X are in X/Laws.antt. Assumes nothing.
 pub mod Run
-pub mod Curvature
-pub mod Pair
-pub mod Division
-pub mod Update
 pub mod Answer
 pub mod Train

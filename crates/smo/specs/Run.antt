@@ -2,7 +2,6 @@
 -- budget. Assumes nothing.
 pub mod Meaning
 pub mod Laws
-pub mod Append
 use mathlib.Core.Bool.{true, false}
 use mathlib.Core.List.{List}
 use mathlib.Core.Option.{none, some}
@@ -10,23 +9,23 @@ use Prim.Native.Nat.{ℕ, zero, suc, _*_}
 use lib.IntN.{pos, _+ℤ_}
 use lib.ListN.{replicate}
 use lib.Signed.{leZ}
-use Rattle.dual_problem.specs.Problem.{Problem, b-up, b-low}
+use Rattle.dual_problem.specs.Problem.{Problem, bUp, bLow}
+use Rattle.dual_problem.specs.Items.{at}
+use Rattle.smo_step.specs.Step.{moved, amount, workingPair}
 use Rattle.smo.specs.declared.ending.Ending.{Ending}
 use Rattle.smo.specs.declared.ending.Ending.the-variants.{Converged, Stuck, Spent}
-use Rattle.dual_problem.specs.Items.{at}
-use Rattle.smo.specs.Step.{moved, amount, working-pair}
 
 -- what is done at the multipliers a: training ends, or a move leads to the next multipliers
 pub data Next : Type 0 where
   ends : Ending → Next
-  goes-on : List ℕ → Next
+  goesOn : List ℕ → Next
 
 -- "1. if b_low ≤ b_up + 2 × t, the ending is converged; 2. if no pair moves, it is stuck"
 unfoldable pub next : Problem → ℕ → List ℕ → Next
 next P t a =
-    elim (leZ (b-low P (at a)) (b-up P (at a) +ℤ pos (2 * t))) [
+    elim (leZ (bLow P (at a)) (bUp P (at a) +ℤ pos (2 * t))) [
       | true ↦ ends Converged
-      | false ↦ elim (working-pair P a) [ none ↦ ends Stuck | some ij ↦ goes-on (moved P a (ij .0) (ij .1) (amount P a (ij .0) (ij .1))) ]
+      | false ↦ elim (workingPair P a) [ none ↦ ends Stuck | some ij ↦ goesOn (moved P a (ij .0) (ij .1) (amount P a (ij .0) (ij .1))) ]
     ]
 
 -- how a run ended, the steps that it took, and the multipliers that it left
@@ -35,20 +34,20 @@ pub record Outcome : Type 0 where
   pub steps : ℕ
   pub multipliers : List ℕ
 
-abbrev pub one-step-more : Outcome → Outcome
-one-step-more o = record { ending = o .ending; steps = suc (o .steps); multipliers = o .multipliers }
+abbrev pub oneStepMore : Outcome → Outcome
+oneStepMore o = record { ending = o .ending; steps = suc (o .steps); multipliers = o .multipliers }
 
 -- the run from the multipliers a that may take `limit` steps: "3. if the steps taken equal the budget, it is spent"
 unfoldable pub run : Problem → ℕ → ℕ → List ℕ → Outcome
 run P t zero a =
     elim (next P t a) [
       | ends ending ↦ record { ending = ending; steps = 0; multipliers = a }
-      | goes-on b ↦ record { ending = Spent; steps = 0; multipliers = a }
+      | goesOn b ↦ record { ending = Spent; steps = 0; multipliers = a }
     ]
 run P t (suc limit) a =
     elim (next P t a) [
       | ends e ↦ record { ending = e; steps = 0; multipliers = a }
-      | goes-on b ↦ one-step-more (run P t limit b)
+      | goesOn b ↦ oneStepMore (run P t limit b)
     ]
 
 -- "Start with all multipliers 0 and 0 steps."

@@ -11,30 +11,32 @@ use lib.IntN.{ℤ}
 use lib.ListN.{length, take}
 use Rattle.integers.specs.Written.{written}
 use Rattle.training_file.specs.declared.parameters.Parameters.{Parameters}
-use Rattle.training_file.specs.Reading.{Reading, refused, accepted}
-use Rattle.dual_problem.specs.Problem.{Problem, Feasible, Within, problem, gradient, bound, gap}
+use Rattle.training_file.specs.declared.refusal.Refusal.{Refusal}
+use Rattle.training_file.specs.Refusal.{refusal}
+use Rattle.reading.specs.Reading.{Reading, refused, accepted, reading}
+use Rattle.dual_problem.specs.Problem.{BoundedDistance, Problem, gradient, problem}
 use Rattle.dual_problem.specs.Items.{at}
+use Rattle.smo_step.specs.Move.{NoMoveLowers}
 use Rattle.smo.specs.declared.ending.Ending.the-variants.{Stuck}
 use Rattle.smo.specs.declared.run.Trained.{Trained}
 use Rattle.smo.specs.declared.train.Training.{Training}
 use Rattle.smo.specs.declared.train.Training.the-variants.{Refused, Ended}
-use Rattle.smo.specs.Move.{NoMoveLowers}
 use Rattle.smo.specs.Run.{Outcome, training}
 use Rattle.smo.specs.Run.Meaning.{GapPasses, Means}
 use Rattle.smo.specs.Answer.{trainedOf}
 
 -- the answer, and both lent lists afterwards
-pub record Left : Type 0 where
+pub record TrainingLeft : Type 0 where
   pub answer : Training
   pub multipliers : List ℕ
   pub gradient : List ℤ
 
 -- "A refusal returns its number alone .. and every lent list keeps its contents."
-abbrev pub refusedWith : ℕ → List ℕ → List ℤ → Left
-refusedWith number a g = record { answer = Refused (record { number = number }); multipliers = a; gradient = g }
+abbrev pub unchanged : Refusal → List ℕ → List ℤ → TrainingLeft
+unchanged why a g = record { answer = Refused why; multipliers = a; gradient = g }
 
 -- "The first n places of a lent list of multipliers and of a lent list of G hold their final values; later places keep theirs."
-abbrev pub endedWith : Problem → Outcome → List ℕ → List ℤ → Left
+abbrev pub endedWith : Problem → Outcome → List ℕ → List ℤ → TrainingLeft
 endedWith P o a g =
     record {
       answer = Ended (trainedOf P o);
@@ -43,24 +45,28 @@ endedWith P o a g =
     }
 
 -- refusals 1 to 5 are the file's; "6: training, a lent list shorter than n"
-abbrev pub trainRead : Reading → List ℕ → List ℤ → Left
-trainRead (refused number) a g = refusedWith number a g
+abbrev pub trainRead : Reading → List ℕ → List ℤ → TrainingLeft
+trainRead (refused number) a g = unchanged (refusal number) a g
 trainRead (accepted p order items) a g =
     cond (leb (length items) (length a) && leb (length items) (length g))
     (endedWith (problem p items) (training (problem p items) (p .tolerance) (p .budget)) a g)
-    (refusedWith 6 a g)
+    (unchanged (refusal 6) a g)
 
--- Demand 3, of the answer and the multipliers left: they are feasible; no feasible multipliers on this grid or on a finer one beat them
--- by more than the bound with the thresholds answered; each ending means what document 01 says; and training is stuck exactly when the
--- gap passes twice the tolerance and no move of two multipliers lowers the objective
-pub record Trusted (p : Parameters) (P : Problem) (result : Trained) (a : List ℕ) : Type 0 where
-  pub feasible : Feasible P (at a)
-  pub distance : Within (bound (gap (result .lower) (result .upper)) (p .ceiling) (P .count)) P (at a)
+-- any file, with the lists as they are lent
+abbrev pub trainFile : List ℕ → List ℕ → List ℤ → TrainingLeft
+trainFile file a g = trainRead (reading file) a g
+
+-- Demand 3, of the result and the multipliers left: they are feasible and no others, on this grid or on a finer one, beat them by more
+-- than the bound with the thresholds answered; each ending means what document 01 says; and training is stuck exactly when the gap
+-- passes twice the tolerance and no move of two multipliers lowers the objective
+pub record ResultQuality (p : Parameters) (P : Problem) (result : Trained) (a : List ℕ) : Type 0 where
+  pub bounded : BoundedDistance P (p .ceiling) (result .lower) (result .upper) (at a)
   pub in-budget : result .steps ≤ p .budget
   pub means : Means P (p .tolerance) (p .budget) (result .steps) a (result .ending)
   pub stuck-exactly : (result .ending ≡ Stuck) ↔ (GapPasses P (p .tolerance) a × NoMoveLowers P (at a))
 
-abbrev pub Demand3 : Reading → Training → List ℕ → Type 0
-Demand3 (refused number) answer left = Unit {0}
-Demand3 (accepted p order items) (Refused why) left = Unit {0}
-Demand3 (accepted p order items) (Ended result) left = Trusted p (problem p items) result (take (length items) left)
+-- the same of the answer to any file, and of the lent list as training leaves it
+abbrev pub TrainingQuality : Reading → Training → List ℕ → Type 0
+TrainingQuality (refused number) answer left = Unit {0}
+TrainingQuality (accepted p order items) (Refused why) left = Unit {0}
+TrainingQuality (accepted p order items) (Ended result) left = ResultQuality p (problem p items) result (take (length items) left)

@@ -1,8 +1,6 @@
-// Training by sequential minimal optimization: the working pair, the amount of a move, the move, the run.
-pub mod amount;
-pub mod curvature;
+// Training by sequential minimal optimization (document 01, "The step"): the run, step after step, and the call. It may use `integers`,
+// `training_file`, `reading`, `dual_problem` and `smo_step`.
+
 pub mod ending;
-pub mod pair;
 pub mod run;
-pub mod step;
 pub mod train;

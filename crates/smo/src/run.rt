@@ -2,23 +2,17 @@
 // step").
 
 ghost use mathlib.Core.Path.{_≡_};
-ghost use Prim.Native.Nat.{_≤_};
-ghost use lib.IntN.{pos};
-ghost use lib.ListN.{getD};
-ghost use Rattle.integers.specs.Written.{written};
-ghost use Rattle.training_file.specs.AcceptedLaws.{Ranges};
-ghost use Rattle.dual_problem.specs.Problem.{gradient as gradientOf};
-ghost use Rattle.dual_problem.specs.Items.{at, problem-of};
-ghost use Rattle.dual_problem.specs.Thresholds.{bestValue, extremesOf};
-ghost use Rattle.smo.specs.State.{State};
-ghost use Rattle.smo.specs.Run.{run as runOf};
-ghost use Rattle.smo.specs.Answer.{decision, decisionEnding, trainedOf};
+ghost use Rattle.training_file.specs.Parameters.{Ranges};
+ghost use Rattle.dual_problem.specs.Items.{problemOf};
+ghost use Rattle.dual_problem.specs.Thresholds.{extremesIn};
+ghost use Rattle.smo_step.specs.State.{State};
+ghost use Rattle.smo.specs.Answer.{decision, decisionEnding, runFrom, trainedWith};
 use super::ending::Ending;
-use super::pair::Pair;
-use super::pair::working_pair;
-use super::step::take_step;
 use dual_problem::thresholds::Extremes;
 use dual_problem::thresholds::find_extremes;
+use smo_step::pair::Pair;
+use smo_step::pair::working_pair;
+use smo_step::step::take_step;
 use training_file::parameters::Parameters;
 
 // What is done before a step: the run ends, or a pair moves.
@@ -49,7 +43,7 @@ pub struct Trained {
 
 impl Trained {
     fn new(ending: Ending, steps: u32, found: Extremes) -> Trained
-        ensures { λ r. ⌜ r ≡ record { ending = ending; steps = steps; lower = bestValue (found .low); upper = bestValue (found .up) } ⌝ }
+        ensures { λ r. ⌜ r ≡ trainedWith ending steps found ⌝ }
     {
         let low = found.low;
         let up = found.up;
@@ -72,8 +66,9 @@ fn decide(
     gradient: &[i64],
     found: Extremes,
 ) -> Decision
-    requires { ⌜ State (now file) (now order) count parameters (now multipliers) (now gradient) × Ranges parameters × (found ≡ extremesOf (problem-of (now file) parameters) (at (now multipliers)) (λ i. getD (now gradient) i (pos 0))) ⌝ }
-    ensures { λ r. ⌜ r ≡ decision (problem-of (now (file .entry)) parameters) (parameters .tolerance) (now (multipliers .entry)) ⌝ }
+    requires { ⌜ State (now file) (now order) count parameters (now multipliers) (now gradient) × Ranges parameters
+        × (found ≡ extremesIn (now file) parameters (now multipliers) (now gradient)) ⌝ }
+    ensures { λ r. ⌜ r ≡ decision (problemOf (now (file .entry)) parameters) (parameters .tolerance) (now (multipliers .entry)) ⌝ }
 {
     let low = found.low;
     let up = found.up;
@@ -98,8 +93,9 @@ pub fn run(
     gradient: &mut [i64],
 ) -> Trained
     requires { ⌜ State (now file) (now order) count parameters (now multipliers) (now gradient) × Ranges parameters ⌝ }
-    ensures answer { λ r. ⌜ r ≡ trainedOf (problem-of (now (file .entry)) parameters) (runOf (problem-of (now (file .entry)) parameters) (parameters .tolerance) limit (now (multipliers .entry))) ⌝ }
-    ensures lists { λ r. ⌜ (now (multipliers .exit) ≡ runOf (problem-of (now (file .entry)) parameters) (parameters .tolerance) limit (now (multipliers .entry)) .multipliers) × (now (gradient .exit) ≡ written count (gradientOf (problem-of (now (file .entry)) parameters) (at (runOf (problem-of (now (file .entry)) parameters) (parameters .tolerance) limit (now (multipliers .entry)) .multipliers))) (now (gradient .entry))) ⌝ }
+    ensures { λ r.
+        ⌜ record { trained = r; multipliers = now (multipliers .exit); gradient = now (gradient .exit) }
+        ≡ runFrom (now (file .entry)) parameters count limit (now (multipliers .entry)) (now (gradient .entry)) ⌝ }
 {
     let mut steps: u32 = 0;
     loop {

@@ -8,10 +8,10 @@ use native.Mathlib.Decide.{decLe}
 use native.Mathlib.Omega.{arith}
 use lib.ListN.{length, take}
 use lib.Seq.{length-take-le, take-all}
-use Rattle.training_file.specs.Header.{lengthAllowed}
-use Rattle.training_file.specs.HeaderLaws.{allowed-holds}
-use Rattle.training_file.specs.Reading.{reading, refused}
-use Rattle.training_file.specs.ReadingLaws.{reads-1}
+use Rattle.reading.specs.Header.{lengthAllowed}
+use Rattle.reading.specs.Header.Laws.{allowed-whole}
+use Rattle.reading.specs.Reading.{reading, refused}
+use Rattle.reading.specs.Reading.Laws.{reads-1}
 use Rattle.listing.specs.Listing.{listingOf}
 
 -- a place more than the longest file that is accepted
@@ -23,7 +23,7 @@ long-refused file h = by (lengthAllowed file) refl
   where
     by : (b : Bool) → lengthAllowed file ≡ b → reading file ≡ refused 1
     by false e = reads-1 file e
-    by true e = let held = allowed-holds file e in absurd (omega arith)
+    by true e = let held = allowed-whole file e in absurd (omega arith)
 
 pub cut-same : (places : ℕ) (file : List ℕ) → enough ≤ places → listingOf (reading (take places file)) ≡ listingOf (reading file)
 cut-same places file l = by (decLe (length file) places)

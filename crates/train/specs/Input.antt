@@ -6,6 +6,6 @@ use Rattle.train.specs.declared.Input.{Input}
 use Rattle.train.specs.declared.Input.the-variants.{Bytes, Failed}
 
 -- the bytes that came from a place on end within the buffer
-abbrev pub Within : ℕ → Input → List ℕ → Type 0
-Within from (Bytes count) buffer = from + count ≤ length buffer
-Within from Failed buffer = Unit {0}
+abbrev pub FitsBuffer : ℕ → Input → List ℕ → Type 0
+FitsBuffer from (Bytes count) buffer = from + count ≤ length buffer
+FitsBuffer from Failed buffer = Unit {0}

@@ -1,9 +1,10 @@
 // The training program: one training file on standard input, its listing on standard output (document 01, last part of "Settled examples").
+// It may use `listing` and what a file consists of, `training_file`; what it reads and writes goes through `io` and `libc`.
 
 ghost use Prim.Native.Nat.{_≤_};
 ghost use lib.ListN.{length};
 ghost use Rattle.train.specs.Cut.{enough};
-ghost use Rattle.train.specs.Input.{Within};
+ghost use Rattle.train.specs.Input.{FitsBuffer};
 use libc::STDERR_FILENO;
 use libc::STDIN_FILENO;
 use libc::STDOUT_FILENO;
@@ -19,7 +20,7 @@ pub enum Input {
 // One read, into the buffer from a place on: how many bytes came, 0 at the end of the input.
 fn read_some(buffer: &mut [u8], from: usize) -> Input
     requires { ⌜ from ≤ length (now buffer) ⌝ }
-    ensures { λ r. ⌜ Within from r (now (buffer .entry)) ⌝ }
+    ensures { λ r. ⌜ FitsBuffer from r (now (buffer .entry)) ⌝ }
 {
     let rest = &mut buffer[from..];
     let got = libc::read(STDIN_FILENO, rest);
@@ -33,7 +34,7 @@ fn read_some(buffer: &mut [u8], from: usize) -> Input
 // (`cut-same` of specs/Cut.antt).
 fn read_input(buffer: &mut [u8]) -> Input
     requires { ⌜ enough ≤ length (now buffer) ⌝ }
-    ensures { λ r. ⌜ Within 0 r (now (buffer .entry)) ⌝ }
+    ensures { λ r. ⌜ FitsBuffer 0 r (now (buffer .entry)) ⌝ }
 {
     let mut count = 0;
     while count < buffer.len() {

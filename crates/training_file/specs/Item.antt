@@ -1,22 +1,30 @@
--- An item and its ranges (document 01, "The training file": "An item is its label with sixteen signed features").
-use mathlib.Core.Bool.{Bool, true, _&&_, cond}
+-- An item and its ranges (document 01, "The training file": "An item is its label with sixteen signed features"). Laws are in
+-- Item/Laws.antt. Assumes nothing.
+pub mod Laws
+use mathlib.Core.Bool.{Bool, _&&_, cond}
 use mathlib.Core.List.{List, map}
-use Prim.Native.Nat.{ℕ, zero, suc}
+use Prim.Native.Nat.{ℕ}
 use lib.Dec.{ltb, eqb}
 use lib.IntN.{ℤ, pos, negℤ}
 use lib.Signed.{leZ}
+use Rattle.integers.specs.Places.{all}
 use Rattle.training_file.specs.declared.item.Label.{Label}
 use Rattle.training_file.specs.declared.item.Label.the-variants.{LookedUp, PassedOver}
 use Rattle.training_file.specs.declared.item.Item.{Item}
-use Rattle.training_file.specs.Layout.{byteAt, signedByte}
+use Rattle.training_file.specs.Layout.{byteAt, featureCount, signedByte}
 use Rattle.training_file.specs.Parameters.{within}
 
 -- "the label (1 looked up, y = +1; 2 passed over, y = −1)". Only an allowed byte is asked for its label.
 abbrev pub labelAllowed : ℕ → Bool
 labelAllowed byte = within 1 2 byte
 
-abbrev pub labelOf : ℕ → Label
-labelOf byte = cond (eqb byte 1) LookedUp PassedOver
+abbrev pub labelOfByte : ℕ → Label
+labelOfByte byte = cond (eqb byte 1) LookedUp PassedOver
+
+-- the other label: document 01 has several rules in pairs, the second being the first with y = +1 and y = −1 exchanged
+abbrev pub opposite : Label → Label
+opposite LookedUp = PassedOver
+opposite PassedOver = LookedUp
 
 -- 1 where two labels are the same, else 0
 abbrev pub same : Label → Label → ℕ
@@ -36,14 +44,9 @@ featureAllowed feature = leZ (negℤ (pos featureMost)) feature && leZ feature (
 abbrev pub featureByteAllowed : Bool → ℕ → Bool
 featureByteAllowed inUse byte = cond inUse (featureAllowed (signedByte byte)) (eqb byte 0)
 
--- whether a test holds at each place below n
-unfoldable pub allBelow : ℕ → (ℕ → Bool) → Bool
-allBelow zero test = true
-allBelow (suc n) test = allBelow n test && test n
-
 -- the sixteen feature bytes of a record, the first d in use
 unfoldable pub featuresAllowed : ℕ → List ℕ → Bool
-featuresAllowed d bytes = allBelow 16 (λ i. featureByteAllowed (ltb i d) (byteAt bytes i))
+featuresAllowed d bytes = all featureCount (λ i. featureByteAllowed (ltb i d) (byteAt bytes i))
 
 -- the item of a label and its sixteen feature bytes
 abbrev pub itemOf : Label → List ℕ → Item

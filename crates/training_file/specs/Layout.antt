@@ -20,9 +20,12 @@ le4 file at = le2 file at + 65536 * le2 file (at + 2)
 abbrev pub le8 : List ℕ → ℕ → ℕ
 le8 file at = le4 file at + 4294967296 * le4 file (at + 4)
 
--- the signed number that a byte holds: `negsuc k` is −1 − k, so 255 is −1 and 128 is −128
+-- the signed number that a byte holds, at most 128 in size: `negsuc k` is −1 − k, so 255 is −1 and 128 is −128
 abbrev pub signedByte : ℕ → ℤ
 signedByte byte = cond (ltb byte 128) (pos byte) (negsuc (255 - byte))
+
+abbrev pub signedMost : ℕ
+signedMost = 128
 
 -- ---- "The header has 32 bytes."
 
@@ -84,5 +87,8 @@ abbrev pub zeroByte : List ℕ → ℕ → ℕ
 zeroByte file r = byteAt file (recordStart r + 3)
 
 -- "bytes 4-19 sixteen features"
+abbrev pub featureCount : ℕ
+featureCount = 16
+
 abbrev pub featureBytes : List ℕ → ℕ → List ℕ
-featureBytes file r = take 16 (drop (recordStart r + 4) file)
+featureBytes file r = take featureCount (drop (recordStart r + 4) file)

@@ -1,10 +1,33 @@
--- The parameters of training and their ranges (document 01, "The training file": the header's table, column "Allowed").
+-- The parameters of training and their ranges (document 01, "The training file": the header's table, column "Allowed"). Laws are in
+-- Parameters/Laws.antt. Assumes nothing.
+pub mod Laws
 use mathlib.Core.Bool.{Bool, _&&_, cond}
-use Prim.Native.Nat.{ℕ}
+use Prim.Native.Nat.{ℕ, _≤_}
 use lib.Dec.{leb, eqb}
 use Rattle.training_file.specs.declared.parameters.Kernel.{Kernel}
 use Rattle.training_file.specs.declared.parameters.Kernel.the-variants.{Linear, Square}
 use Rattle.training_file.specs.declared.parameters.Parameters.{Parameters}
+use Rattle.training_file.specs.Layout.{featureCount}
+
+-- m is "0 to 256"
+abbrev pub recordsMost : ℕ
+recordsMost = 256
+
+-- S is "1 to 1,048,576"
+abbrev pub gridMost : ℕ
+gridMost = 1048576
+
+-- c is "1 to 65,536"
+abbrev pub ceilingMost : ℕ
+ceilingMost = 65536
+
+-- t is "0 to 1,000,000,000,000"
+abbrev pub toleranceMost : ℕ
+toleranceMost = 1000000000000
+
+-- the step budget is "0 to 1,000,000"
+abbrev pub budgetMost : ℕ
+budgetMost = 1000000
 
 -- whether a value is within a range, ends included
 abbrev pub within : ℕ → ℕ → ℕ → Bool
@@ -14,14 +37,25 @@ within least greatest value = leb least value && leb value greatest
 abbrev pub kernelAllowed : ℕ → Bool
 kernelAllowed byte = leb byte 1
 
-abbrev pub kernelOf : ℕ → Kernel
-kernelOf byte = cond (eqb byte 0) Linear Square
+abbrev pub kernelOfByte : ℕ → Kernel
+kernelOfByte byte = cond (eqb byte 0) Linear Square
 
--- d, S, c, t and the step budget, each within its range
+-- d ("1 to 16", the features that an item has), S, c, t and the step budget, each within its range
 unfoldable pub parametersAllowed : Parameters → Bool
 parametersAllowed p =
-    within 1 16 (p .features)
-    && within 1 1048576 (p .grid)
-    && within 1 65536 (p .ceiling)
-    && within 0 1000000000000 (p .tolerance)
-    && within 0 1000000 (p .budget)
+    within 1 featureCount (p .used)
+    && within 1 gridMost (p .grid)
+    && within 1 ceilingMost (p .ceiling)
+    && within 0 toleranceMost (p .tolerance)
+    && within 0 budgetMost (p .budget)
+
+-- the same ranges as orders
+pub record Ranges (p : Parameters) : Type 0 where
+  pub used-least : 1 ≤ p .used
+  pub used-greatest : p .used ≤ featureCount
+  pub grid-least : 1 ≤ p .grid
+  pub grid-greatest : p .grid ≤ gridMost
+  pub ceiling-least : 1 ≤ p .ceiling
+  pub ceiling-greatest : p .ceiling ≤ ceilingMost
+  pub tolerance-greatest : p .tolerance ≤ toleranceMost
+  pub budget-greatest : p .budget ≤ budgetMost

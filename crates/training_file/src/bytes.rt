@@ -38,7 +38,7 @@ pub fn u64_at(file: &[u8], at: usize) -> u64
 }
 
 // The signed number that a byte holds: 128 to 255 stand for −128 to −1.
-pub fn signed(byte: u8) -> i8
+pub fn signed_byte(byte: u8) -> i8
     ensures { λ r. ⌜ r ≡ signedByte byte ⌝ }
 {
     if byte < 128 {

@@ -3,9 +3,10 @@
 ghost use mathlib.Core.Path.{_≡_};
 ghost use lib.ListN.{length};
 ghost use Rattle.training_file.specs.declared.item.Label.the-variants.{LookedUp};
-ghost use Rattle.training_file.specs.Item.{featureAllowed, featureByteAllowed, featuresAllowed, itemOf, labelOf, same};
-ghost use Rattle.training_file.specs.Stages.{labelAnswer, labelRefusal};
-use super::bytes::signed;
+ghost use Rattle.training_file.specs.Item.{featureAllowed, featureByteAllowed, featuresAllowed, itemOf, labelOfByte, opposite as oppositeOf, same};
+ghost use Rattle.training_file.specs.Answers.{labelAnswer, labelRefusal};
+use super::bytes::signed_byte;
+use super::range::within;
 use super::refusal::Refusal;
 
 // What the log says of a word.
@@ -26,7 +27,7 @@ impl LabelAnswer {
     {
         match self {
             LabelAnswer::Refused(refusal) => refusal,
-            LabelAnswer::Known(_) => Refusal { number: 0 },
+            LabelAnswer::Known(_) => Refusal::NONE,
         }
     }
 }
@@ -38,12 +39,22 @@ impl Label {
 
     // The label of a record that was judged: a byte that is not looked up is passed over.
     pub fn of_judged(byte: u8) -> Label
-        ensures { λ r. ⌜ r ≡ labelOf byte ⌝ }
+        ensures { λ r. ⌜ r ≡ labelOfByte byte ⌝ }
     {
         if byte == Label::LOOKED_UP {
             Label::LookedUp
         } else {
             Label::PassedOver
+        }
+    }
+
+    // The other label.
+    pub fn opposite(self) -> Label
+        ensures { λ r. ⌜ r ≡ oppositeOf self ⌝ }
+    {
+        match self {
+            Label::LookedUp => Label::PassedOver,
+            Label::PassedOver => Label::LookedUp,
         }
     }
 
@@ -61,10 +72,12 @@ impl Label {
     pub fn from_byte(byte: u8) -> LabelAnswer
         ensures { λ r. ⌜ r ≡ labelAnswer byte ⌝ }
     {
-        if byte < Label::LOOKED_UP || Label::PASSED_OVER < byte {
-            return LabelAnswer::Refused(Refusal {
-                number: Refusal::RECORD,
-            });
+        if !within(
+            Label::LOOKED_UP as u64,
+            Label::PASSED_OVER as u64,
+            byte as u64,
+        ) {
+            return LabelAnswer::Refused(Refusal::RECORD);
         }
         LabelAnswer::Known(Label::of_judged(byte))
     }
@@ -72,7 +85,7 @@ impl Label {
 
 pub struct Item {
     pub label: Label,
-    pub features: [i8; 16],
+    pub features: [i8; Item::FEATURES],
 }
 
 impl Item {
@@ -101,7 +114,7 @@ impl Item {
         ensures { λ r. ⌜ r ≡ featureByteAllowed «in_use» byte ⌝ }
     {
         if in_use {
-            Item::allows(signed(byte))
+            Item::allows(signed_byte(byte))
         } else {
             byte == 0
         }
@@ -127,10 +140,10 @@ impl Item {
         requires { do ⌜ length (now part) ≡ (← ⟦Item::FEATURES⟧) ⌝ }
         ensures { λ r. ⌜ r ≡ itemOf label (now (part .entry)) ⌝ }
     {
-        let mut features = [0i8; 16];
+        let mut features = [0i8; Item::FEATURES];
         let mut i = 0;
         while i < Item::FEATURES {
-            features[i] = signed(part[i]);
+            features[i] = signed_byte(part[i]);
             i += 1;
         }
         Item { label, features }

@@ -1,14 +1,10 @@
-// A training file, after document 01: any bytes are read as one of the refusals 1 to 5, or as parameters and the items in
-// chain order. The public calls are those of `reader`; the other modules each hold one part of the file.
+// What a training file consists of, after document 01: its layout, the parameters, items and records, and the refusals. Whoever reads or
+// writes such a file stands on this. It may use `integers` alone.
 
 pub mod bytes;
-pub mod chain;
-pub mod header;
 pub mod item;
 pub mod layout;
 pub mod parameters;
-pub mod reader;
+pub mod range;
 pub mod record;
 pub mod refusal;
-pub mod step;
-pub mod walker;

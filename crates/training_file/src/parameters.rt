@@ -1,7 +1,9 @@
 // The parameters of training, judged as they are made. The least and the greatest value of each field stand here alone.
 
 ghost use mathlib.Core.Path.{_≡_};
-ghost use Rattle.training_file.specs.Stages.{kernelAnswer, kernelRefusal, parametersAnswer, parametersRefusal};
+ghost use Rattle.training_file.specs.Answers.{kernelAnswer, kernelRefusal, parametersAnswer, parametersRefusal};
+use super::item::Item;
+use super::range::within;
 use super::refusal::Refusal;
 
 // Which kernel compares two items.
@@ -22,7 +24,7 @@ impl KernelAnswer {
     {
         match self {
             KernelAnswer::Refused(refusal) => refusal,
-            KernelAnswer::Known(_) => Refusal { number: 0 },
+            KernelAnswer::Known(_) => Refusal::NONE,
         }
     }
 }
@@ -42,15 +44,13 @@ impl Kernel {
         if byte == Kernel::SQUARE {
             return KernelAnswer::Known(Kernel::Square);
         }
-        KernelAnswer::Refused(Refusal {
-            number: Refusal::HEADER,
-        })
+        KernelAnswer::Refused(Refusal::HEADER)
     }
 }
 
 pub struct Parameters {
     // d, how many of an item's features are in use.
-    pub features: usize,
+    pub used: usize,
     pub kernel: Kernel,
     // S, grid units per 1.
     pub grid: u32,
@@ -74,16 +74,15 @@ impl ParametersAnswer {
     {
         match self {
             ParametersAnswer::Refused(refusal) => refusal,
-            ParametersAnswer::Allowed(_) => Refusal { number: 0 },
+            ParametersAnswer::Allowed(_) => Refusal::NONE,
         }
     }
 }
 
-// The least tolerance and the least budget are 0, as of every unsigned number.
 impl Parameters {
-    pub const MIN_FEATURES: usize = 1;
+    pub const MIN_USED: usize = 1;
 
-    pub const MAX_FEATURES: usize = 16;
+    pub const MAX_USED: usize = Item::FEATURES;
 
     pub const MIN_GRID: u32 = 1;
 
@@ -93,38 +92,64 @@ impl Parameters {
 
     pub const MAX_CEILING: u32 = 65_536;
 
+    pub const MIN_TOLERANCE: u64 = 0;
+
     pub const MAX_TOLERANCE: u64 = 1_000_000_000_000;
+
+    pub const MIN_BUDGET: u32 = 0;
 
     pub const MAX_BUDGET: u32 = 1_000_000;
 
     // The parameters, where each is within its range.
     pub fn new(
-        features: usize,
+        used: usize,
         kernel: Kernel,
         grid: u32,
         ceiling: u32,
         tolerance: u64,
         budget: u32,
     ) -> ParametersAnswer
-        ensures { λ r. ⌜ r ≡ parametersAnswer (record { features = features; kernel = kernel; grid = grid; ceiling = ceiling; tolerance = tolerance; budget = budget }) ⌝ }
+        ensures { λ r.
+            ⌜ r ≡ parametersAnswer (record { used = used; kernel = kernel; grid = grid; ceiling = ceiling; tolerance = tolerance; budget = budget }) ⌝ }
     {
-        let refusal = Refusal {
-            number: Refusal::HEADER,
-        };
-        if features < Parameters::MIN_FEATURES || Parameters::MAX_FEATURES < features {
-            return ParametersAnswer::Refused(refusal);
+        let refused = ParametersAnswer::Refused(Refusal::HEADER);
+        if !within(
+            Parameters::MIN_USED as u64,
+            Parameters::MAX_USED as u64,
+            used as u64,
+        ) {
+            return refused;
         }
-        if grid < Parameters::MIN_GRID || Parameters::MAX_GRID < grid {
-            return ParametersAnswer::Refused(refusal);
+        if !within(
+            Parameters::MIN_GRID as u64,
+            Parameters::MAX_GRID as u64,
+            grid as u64,
+        ) {
+            return refused;
         }
-        if ceiling < Parameters::MIN_CEILING || Parameters::MAX_CEILING < ceiling {
-            return ParametersAnswer::Refused(refusal);
+        if !within(
+            Parameters::MIN_CEILING as u64,
+            Parameters::MAX_CEILING as u64,
+            ceiling as u64,
+        ) {
+            return refused;
         }
-        if Parameters::MAX_TOLERANCE < tolerance || Parameters::MAX_BUDGET < budget {
-            return ParametersAnswer::Refused(refusal);
+        if !within(
+            Parameters::MIN_TOLERANCE,
+            Parameters::MAX_TOLERANCE,
+            tolerance,
+        ) {
+            return refused;
+        }
+        if !within(
+            Parameters::MIN_BUDGET as u64,
+            Parameters::MAX_BUDGET as u64,
+            budget as u64,
+        ) {
+            return refused;
         }
         ParametersAnswer::Allowed(Parameters {
-            features,
+            used,
             kernel,
             grid,
             ceiling,

@@ -3,8 +3,8 @@
 ghost use mathlib.Core.Path.{_≡_};
 ghost use Prim.Native.Nat.{_+_, _*_, _^_, _≤_, _<_};
 ghost use Rattle.training_file.specs.Layout.{featureBytes, nextOf, recordStart};
-ghost use Rattle.training_file.specs.Record.{Stored, itemAt};
-ghost use Rattle.training_file.specs.Stages.{recordAnswer};
+ghost use Rattle.training_file.specs.Record.{Stored, itemAt, labelAt};
+ghost use Rattle.training_file.specs.Answers.{recordAnswer};
 use super::bytes::u16_at;
 use super::item::Item;
 use super::item::Label;
@@ -45,16 +45,20 @@ pub fn judge(file: &[u8], number: usize, used: usize) -> LabelAnswer
 {
     let at = start(number);
     if file[at + layout::ZERO] != 0 {
-        return LabelAnswer::Refused(Refusal {
-            number: Refusal::RECORD,
-        });
+        return LabelAnswer::Refused(Refusal::RECORD);
     }
     if !Item::allows_all(feature_part(file, number), used) {
-        return LabelAnswer::Refused(Refusal {
-            number: Refusal::RECORD,
-        });
+        return LabelAnswer::Refused(Refusal::RECORD);
     }
     Label::from_byte(file[at + layout::LABEL])
+}
+
+// The label of a record that was judged.
+pub fn fetch_label(file: &[u8], number: usize) -> Label
+    requires { ⌜ Stored (now file) number ⌝ }
+    ensures { λ r. ⌜ r ≡ labelAt (now (file .entry)) number ⌝ }
+{
+    Label::of_judged(file[start(number) + layout::LABEL])
 }
 
 // The item of a record that was judged.
@@ -62,6 +66,5 @@ pub fn fetch(file: &[u8], number: usize) -> Item
     requires { ⌜ Stored (now file) number ⌝ }
     ensures { λ r. ⌜ r ≡ itemAt (now (file .entry)) number ⌝ }
 {
-    let label = Label::of_judged(file[start(number) + layout::LABEL]);
-    Item::of_judged(label, feature_part(file, number))
+    Item::of_judged(fetch_label(file, number), feature_part(file, number))
 }

@@ -1,45 +1,30 @@
-// The answer to a file that is not read. Document 01: "A refusal returns its number alone."
-
-ghost use mathlib.Core.Path.{_≡_};
-ghost use Rattle.training_file.specs.Stages.{countRefusal};
+// A refusal of document 01: "A refusal returns its number alone." They all stand in this one list, and nothing else makes one.
 
 pub struct Refusal {
     pub number: u8,
 }
 
 impl Refusal {
-    pub const LENGTH: u8 = 1;
+    // No refusal has the number 0: it stands where an answer is none.
+    pub const NONE: Refusal = Refusal { number: 0 };
 
-    pub const HEADER: u8 = 2;
+    // What whoever wrote the file can cause.
+    pub const FILE_LENGTH: Refusal = Refusal { number: 1 };
 
-    pub const CHAIN: u8 = 3;
+    pub const HEADER: Refusal = Refusal { number: 2 };
 
-    pub const RECORD: u8 = 4;
+    pub const CHAIN: Refusal = Refusal { number: 3 };
 
-    pub const LABELS: u8 = 5;
-}
+    pub const RECORD: Refusal = Refusal { number: 4 };
 
-// What a stage of reading counts, or the refusal that it meets.
-pub enum Count {
-    Refused(Refusal),
-    Counted(usize),
-}
+    pub const LABELS: Refusal = Refusal { number: 5 };
 
-impl Count {
-    // A refusal, by its number.
-    pub fn refused(number: u8) -> Count
-        ensures { λ r. ⌜ r ≡ Count.Refused (record { number = number }) ⌝ }
-    {
-        Count::Refused(Refusal { number })
-    }
+    // What the caller can cause. 6 is of a lent list, multipliers or a word of the wrong length.
+    pub const LIST_LENGTH: Refusal = Refusal { number: 6 };
 
-    // The refusal, where this is one; a count is no refusal, and gives the number 0.
-    pub fn refusal(self) -> Refusal
-        ensures { λ r. ⌜ r ≡ countRefusal self ⌝ }
-    {
-        match self {
-            Count::Refused(refusal) => refusal,
-            Count::Counted(_) => Refusal { number: 0 },
-        }
-    }
+    pub const MULTIPLIER: Refusal = Refusal { number: 7 };
+
+    pub const BALANCE: Refusal = Refusal { number: 8 };
+
+    pub const WORD_FEATURE: Refusal = Refusal { number: 9 };
 }

@@ -14,7 +14,8 @@ use Rattle.integers.specs.Gram.{Gram}
 use Rattle.integers.specs.Gram.Laws.{gram-one, gram-+, gram-*}
 use Rattle.training_file.specs.declared.parameters.Kernel.{Kernel}
 use Rattle.training_file.specs.declared.parameters.Kernel.the-variants.{Linear, Square}
-use Rattle.dual_problem.specs.Kernel.{linear, square, kernelValue, largest-linear, largest-kernel}
+use Rattle.dual_problem.specs.Size.{kernelMost}
+use Rattle.dual_problem.specs.Kernel.{linear, square, kernelValue, largestLinear, largestKernel}
 
 -- ---- Gram forms
 linear-gram : (n d : ℕ) (features : ℕ → List ℤ) → Gram n (λ i j. linear d (features i) (features j))
@@ -47,23 +48,23 @@ kernelValue-cong Square d xs ys zs e = ap (λ v. (v +ℤ pos 1) *ℤ (v +ℤ pos
 
 -- ---- bounds, where no feature is larger than F
 module _ (F d : ℕ) (xs zs : List ℤ) (x-within : (p : ℕ) → p < d → natAbs (getD xs p (pos 0)) ≤ F) (z-within : (p : ℕ) → p < d → natAbs (getD zs p (pos 0)) ≤ F) where
-  pub linear-bound : natAbs (linear d xs zs) ≤ largest-linear d F
+  pub linear-bound : natAbs (linear d xs zs) ≤ largestLinear d F
   linear-bound = sum-bound d (λ p. getD xs p (pos 0) *ℤ getD zs p (pos 0)) (λ p l. *ℤ-bound (getD xs p (pos 0)) (getD zs p (pos 0)) (x-within p l) (z-within p l))
 
-  square-bound : natAbs (square d xs zs) ≤ largest-kernel d F
+  square-bound : natAbs (square d xs zs) ≤ largestKernel d F
   square-bound = *ℤ-bound (linear d xs zs +ℤ pos 1) (linear d xs zs +ℤ pos 1) plus-one plus-one
     where
-      plus-one : natAbs (linear d xs zs +ℤ pos 1) ≤ largest-linear d F + 1
+      plus-one : natAbs (linear d xs zs +ℤ pos 1) ≤ largestLinear d F + 1
       plus-one = +ℤ-bound (linear d xs zs) (pos 1) linear-bound (omega arith)
 
-  pub kernel-bound : (k : Kernel) → natAbs (kernelValue k d xs zs) ≤ largest-kernel d F
+  pub kernel-bound : (k : Kernel) → natAbs (kernelValue k d xs zs) ≤ largestKernel d F
   kernel-bound Linear = omega (arith, linear-bound)
   kernel-bound Square = square-bound
 
 -- ---- a kernel value as a signed number of 64 bits
 -- its bits read back
-pub kernel-reads : (k : ℤ) → natAbs k ≤ largest-kernel 16 128 → toZ w64 (ofZ w64 k) ≡ k
+pub kernel-reads : (k : ℤ) → natAbs k ≤ kernelMost → toZ w64 (ofZ w64 k) ≡ k
 kernel-reads k h = reads-back w64 refl (omega arith)
 
-pub kernel-sized : (k : ℤ) → natAbs k ≤ largest-kernel 16 128 → natAbs (toZ w64 (ofZ w64 k)) ≤ largest-kernel 16 128
-kernel-sized k h = subst (λ z. natAbs z ≤ largest-kernel 16 128) (sym (kernel-reads k h)) h
+pub kernel-sized : (k : ℤ) → natAbs k ≤ kernelMost → natAbs (toZ w64 (ofZ w64 k)) ≤ kernelMost
+kernel-sized k h = subst (λ z. natAbs z ≤ kernelMost) (sym (kernel-reads k h)) h

@@ -10,42 +10,44 @@ use lib.IntN.{ℤ, pos, negsuc}
 use lib.ListN.{length}
 use Rattle.integers.specs.Places.{all}
 use Rattle.integers.specs.Places.Laws.{all-holds, all-true}
+use Rattle.training_file.specs.Refusal.{refusal}
 use Rattle.dual_problem.specs.declared.multipliers.Judgement.{Judgement}
 use Rattle.dual_problem.specs.declared.multipliers.Judgement.the-variants as judged
 use Rattle.dual_problem.specs.Problem.{Problem, Feasible}
 use Rattle.dual_problem.specs.Items.{at}
-use Rattle.dual_problem.specs.Multipliers.{refused, balance, is-zero, judgement}
+use Rattle.dual_problem.specs.Multipliers.{balance, isZero, judgement}
 
-pub is-zero-true : (z : ℤ) → is-zero z ≡ true → z ≡ pos 0
+pub is-zero-true : (z : ℤ) → isZero z ≡ true → z ≡ pos 0
 is-zero-true (pos n) e = ap pos (eqb-true n 0 e)
 is-zero-true (negsuc n) e = let q : _≡_ {A = ℕ} 0 1 = cc in absurd (omega arith)
 
-pub zero-is-zero : {z : ℤ} → z ≡ pos 0 → is-zero z ≡ true
-zero-is-zero e = ap is-zero e
+pub zero-is-zero : {z : ℤ} → z ≡ pos 0 → isZero z ≡ true
+zero-is-zero e = ap isZero e
 
-pub nonzero-is-zero : (z : ℤ) → (z ≡ pos 0 → ⊥) → is-zero z ≡ false
-nonzero-is-zero z h = by (is-zero z) refl
+pub nonzero-is-zero : (z : ℤ) → (z ≡ pos 0 → ⊥) → isZero z ≡ false
+nonzero-is-zero z h = by (isZero z) refl
   where
-    by : (t : Bool) → is-zero z ≡ t → is-zero z ≡ false
+    by : (t : Bool) → isZero z ≡ t → isZero z ≡ false
     by true e = absurd (h (is-zero-true z e))
     by false e = e
 
 -- what the three tests answer decides
 abbrev pub verdict : Bool → Bool → Bool → Judgement
-verdict counted within balanced = cond counted (cond within (cond balanced judged.Feasible (refused 8)) (refused 7)) (refused 6)
+verdict counted within balanced =
+    cond counted (cond within (cond balanced judged.Feasible (judged.Refused (refusal 8))) (judged.Refused (refusal 7))) (judged.Refused (refusal 6))
 
 module _ (P : Problem) (a : List ℕ) where
   abbrev within : Bool
   within = all (P .count) (λ i. leb (at a i) (P .ceiling i))
 
-  pub judgement-is : {s t u : Bool} → eqb (length a) (P .count) ≡ s → all (P .count) (λ i. leb (at a i) (P .ceiling i)) ≡ t → is-zero (balance P (at a)) ≡ u → judgement P a ≡ verdict s t u
+  pub judgement-is : {s t u : Bool} → eqb (length a) (P .count) ≡ s → all (P .count) (λ i. leb (at a i) (P .ceiling i)) ≡ t → isZero (balance P (at a)) ≡ u → judgement P a ≡ verdict s t u
   judgement-is e f g = λ i. verdict (e i) (f i) (g i)
 
   -- judged feasible: n in number, and feasible
   pub judgement-feasible : judgement P a ≡ judged.Feasible → (length a ≡ P .count) × Feasible P (at a)
-  judgement-feasible h = by (eqb (length a) (P .count)) within (is-zero (balance P (at a))) refl refl refl
+  judgement-feasible h = by (eqb (length a) (P .count)) within (isZero (balance P (at a))) refl refl refl
     where
-      by : (s t u : Bool) → eqb (length a) (P .count) ≡ s → within ≡ t → is-zero (balance P (at a)) ≡ u → (length a ≡ P .count) × Feasible P (at a)
+      by : (s t u : Bool) → eqb (length a) (P .count) ≡ s → within ≡ t → isZero (balance P (at a)) ≡ u → (length a ≡ P .count) × Feasible P (at a)
       by true true true e f g = (
         eqb-true (length a) (P .count) e,
         record { within = λ i l. leb-true (at a i) (P .ceiling i) (all-holds (λ i. leb (at a i) (P .ceiling i)) (P .count) f i l); balanced = is-zero-true (balance P (at a)) g },

@@ -1,5 +1,8 @@
 -- Laws of the problem: what a change of the multipliers does to the objective, which is all that the distance bound and the theorems
 -- on moves rest on; which places are in the up set and in the low set. Assumes nothing.
+pub mod Same
+pub mod Sets
+pub mod Distance
 use mathlib.Core.Path.{_≡_, refl, sym, _∙_, ap}
 use mathlib.Core.List.{List, [], _∷_}
 use Prim.Native.Nat.{ℕ, _*_, _<_}
@@ -14,9 +17,9 @@ use Rattle.training_file.specs.declared.parameters.Parameters.{Parameters}
 use Rattle.training_file.specs.declared.item.Item.{Item}
 use Rattle.training_file.specs.declared.item.Label.{Label}
 use Rattle.training_file.specs.declared.item.Label.the-variants.{LookedUp, PassedOver}
-use Rattle.training_file.specs.Calls.{itemIn}
+use Rattle.reading.specs.Calls.{itemIn}
 use Rattle.dual_problem.specs.Kernel.Laws.{kernel-gram}
-use Rattle.dual_problem.specs.Problem.{Problem, problem, sign, y, gradient, double-sum, objective, finer-objective}
+use Rattle.dual_problem.specs.Problem.{Problem, problem, sign, y, gradient, doubleSum, objective, finerObjective}
 
 pub sign-square : (l : Label) → sign l *ℤ sign l ≡ pos 1
 sign-square LookedUp = refl
@@ -28,8 +31,8 @@ change P m a v i = y P i *ℤ (pos (v i) -ℤ pos m *ℤ pos (a i))
 
 module _ (P : Problem) where
   -- the double sum is the quadratic form of v_i × y_i
-  double-sum-quadratic : (v : ℕ → ℕ) → double-sum P v ≡ quadratic (P .count) (P .kernel) (λ i. pos (v i) *ℤ y P i)
-  unfolding double-sum bilinear
+  double-sum-quadratic : (v : ℕ → ℕ) → doubleSum P v ≡ quadratic (P .count) (P .kernel) (λ i. pos (v i) *ℤ y P i)
+  unfolding doubleSum bilinear
   double-sum-quadratic v =
       sum-cong₂ (P .count) (P .count) (λ i j. pos (v i) *ℤ pos (v j) *ℤ y P i *ℤ y P j *ℤ P .kernel i j) (λ i j. pos (v i) *ℤ y P i *ℤ (pos (v j) *ℤ y P j) *ℤ P .kernel i j)
       (λ i j l k. solve (pos (v i) ∷ pos (v j) ∷ y P i ∷ y P j ∷ P .kernel i j ∷ []) (x₀ ⊗ x₁ ⊗ x₂ ⊗ x₃ ⊗ x₄) (x₀ ⊗ x₂ ⊗ (x₁ ⊗ x₃) ⊗ x₄) refl)
@@ -42,7 +45,7 @@ module _ (P : Problem) where
     x i = pos (a i) *ℤ y P i
 
     -- what the quadratic form and the sum of the multipliers become
-    quadratic-changed : double-sum P v ≡ quadratic (P .count) (P .kernel) u +ℤ pos 2 *ℤ pos m *ℤ bilinear (P .count) (P .kernel) u x +ℤ pos m *ℤ pos m *ℤ double-sum P a
+    quadratic-changed : doubleSum P v ≡ quadratic (P .count) (P .kernel) u +ℤ pos 2 *ℤ pos m *ℤ bilinear (P .count) (P .kernel) u x +ℤ pos m *ℤ pos m *ℤ doubleSum P a
     unfolding u x
     quadratic-changed =
         double-sum-quadratic v
@@ -78,15 +81,15 @@ module _ (P : Problem) where
         row i = sum (P .count) (λ j. x j *ℤ P .kernel i j)
 
     -- D'(v) = m² D(a) + Q(u) + 2 m Σ u_i G_i
-    pub expansion : finer-objective P m v ≡ pos (m * m) *ℤ objective P a +ℤ (quadratic (P .count) (P .kernel) (change P m a v) +ℤ pos 2 *ℤ pos m *ℤ sum (P .count) (λ i. change P m a v i *ℤ gradient P a i))
-    unfolding u objective finer-objective
+    pub expansion : finerObjective P m v ≡ pos (m * m) *ℤ objective P a +ℤ (quadratic (P .count) (P .kernel) (change P m a v) +ℤ pos 2 *ℤ pos m *ℤ sum (P .count) (λ i. change P m a v i *ℤ gradient P a i))
+    unfolding u objective finerObjective
     expansion =
         (λ d. quadratic-changed d -ℤ pos 2 *ℤ pos (P .grid) *ℤ pos m *ℤ sum-changed-to d)
-        ∙ solve (quadratic (P .count) (P .kernel) u ∷ bilinear (P .count) (P .kernel) u x ∷ double-sum P a ∷ pos (P .grid) ∷ pos m ∷ sum (P .count) (λ i. y P i *ℤ u i) ∷ sum (P .count) (λ i. pos (a i)) ∷ [])
+        ∙ solve (quadratic (P .count) (P .kernel) u ∷ bilinear (P .count) (P .kernel) u x ∷ doubleSum P a ∷ pos (P .grid) ∷ pos m ∷ sum (P .count) (λ i. y P i *ℤ u i) ∷ sum (P .count) (λ i. pos (a i)) ∷ [])
         (x₀ ⊕ con (pos 2) ⊗ x₄ ⊗ x₁ ⊕ x₄ ⊗ x₄ ⊗ x₂ ⊖ con (pos 2) ⊗ x₃ ⊗ x₄ ⊗ (x₅ ⊕ x₄ ⊗ x₆))
         (x₄ ⊗ x₄ ⊗ (x₂ ⊖ con (pos 2) ⊗ x₃ ⊗ x₆) ⊕ (x₀ ⊕ con (pos 2) ⊗ x₄ ⊗ (x₁ ⊕ ⊝ x₃ ⊗ x₅))) refl
         ∙ ap (λ z. pos (m * m) *ℤ objective P a +ℤ (quadratic (P .count) (P .kernel) u +ℤ pos 2 *ℤ pos m *ℤ z)) (sym gradient-weighed)
 
 -- the kernel values of any items are a Gram form
 pub problem-gram : (p : Parameters) (items : List Item) → Gram (problem p items .count) (problem p items .kernel)
-problem-gram p items = kernel-gram (p .kernel) (length items) (p .features) (λ i. itemIn items i .features)
+problem-gram p items = kernel-gram (p .kernel) (length items) (p .used) (λ i. itemIn items i .features)

@@ -1,6 +1,7 @@
 -- Laws of the least and the greatest: the place found is below n and passes, its value bounds the others, it is the lowest of its
 -- equals; it is the only place of which that holds; where a place passes, one is found. Proved once, over the strict order by which
 -- values are compared. Assumes nothing.
+pub mod First
 use mathlib.Core.Path.{_≡_, refl, sym, _∙_, ap, subst}
 use mathlib.Core.Logic.{⊎-elim}
 use mathlib.Core.Bool.{Bool, true, false, cond}
@@ -13,7 +14,7 @@ use lib.Signed.{ltZ, _≤ℤ_, _<ℤ_, ≤ℤ-refl}
 use Rattle.integers.specs.Test.{clash, not-true-false, not-false-true}
 use Rattle.integers.specs.Linear.{integer}
 use Rattle.integers.specs.Order.{ltZ-true, ltZ-false, <ℤ-ltZ, ≤ℤ-ltZ}
-use Rattle.integers.specs.Extremum.{beside, extreme, value-at, least, greatest}
+use Rattle.integers.specs.Extremum.{beside, extreme, valueAt, least, greatest}
 
 -- ---- the comparison
 -- what a comparison must do: none comes before itself, and what comes before c comes before b, or b before c
@@ -162,22 +163,22 @@ module _ (before : ℤ → ℤ → Bool) (strict : Strict before) (n : ℕ) (p q
           clash (same-test k (h .within) ∙ h .passes) (extreme-none before strict p f e k (h .within))
 
   -- and so is the extreme value
-  pub extreme-value-cong : value-at f (extreme before n p f) ≡ value-at g (extreme before n q g)
-  extreme-value-cong = by-place (extreme before n p f) refl ∙ ap (value-at g) extreme-cong
+  pub extreme-value-cong : valueAt f (extreme before n p f) ≡ valueAt g (extreme before n q g)
+  extreme-value-cong = by-place (extreme before n p f) refl ∙ ap (valueAt g) extreme-cong
     where
-      by-place : (o : Option ℕ) → extreme before n p f ≡ o → value-at f (extreme before n p f) ≡ value-at g (extreme before n p f)
-      by-place none e = ap (value-at f) e ∙ sym (ap (value-at g) e)
-      by-place (some k) e = ap (value-at f) e ∙ same-value k (extreme-sound before strict p f e .within) ∙ sym (ap (value-at g) e)
+      by-place : (o : Option ℕ) → extreme before n p f ≡ o → valueAt f (extreme before n p f) ≡ valueAt g (extreme before n p f)
+      by-place none e = ap (valueAt f) e ∙ sym (ap (valueAt g) e)
+      by-place (some k) e = ap (valueAt f) e ∙ same-value k (extreme-sound before strict p f e .within) ∙ sym (ap (valueAt g) e)
 
 -- ---- the least and the greatest bound the values that pass
 module _ (n : ℕ) (p : ℕ → Bool) (f : ℕ → ℤ) {i : ℕ} (within : i < n) (passes : p i ≡ true) where
   -- the extreme value is attained, at the lowest place that attains it
-  pub attained : (before : ℤ → ℤ → Bool) → Strict before → (k : ℕ) × Extreme before n p f k × (value-at f (extreme before n p f) ≡ f k)
+  pub attained : (before : ℤ → ℤ → Bool) → Strict before → (k : ℕ) × Extreme before n p f k × (valueAt f (extreme before n p f) ≡ f k)
   attained before strict =
       let r = extreme-found before strict p f within passes in
-      (r .0, extreme-sound before strict p f (r .1), ap (value-at f) (r .1))
+      (r .0, extreme-sound before strict p f (r .1), ap (valueAt f) (r .1))
 
-  bounded : (before : ℤ → ℤ → Bool) → Strict before → before (f i) (value-at f (extreme before n p f)) ≡ false
+  bounded : (before : ℤ → ℤ → Bool) → Strict before → before (f i) (valueAt f (extreme before n p f)) ≡ false
   bounded before strict =
       let r = attained before strict in
       ap (before (f i)) (r .2) ∙ r .1 .bounds i within passes

@@ -1,16 +1,12 @@
 -- Laws of a test of the places i < n. Assumes nothing.
 use mathlib.Core.Path.{_≡_, refl, sym, _∙_, ap}
 use mathlib.Core.Logic.{_⊎_, inl, inr}
-use mathlib.Core.Bool.{Bool, true, false, _&&_}
+use mathlib.Core.Bool.{Bool, true, false, _&&_, and-false}
 use Prim.Native.Nat.{ℕ, zero, suc, _<_}
 use native.Mathlib.Nat.{le-refl, le-of-suc-le-suc, eq-or-lt-of-le}
 use native.Mathlib.Omega.{arith}
 use Rattle.integers.specs.Test.{&&-true, &&-left, &&-right}
 use Rattle.integers.specs.Places.{all}
-
-and-false : (s : Bool) → s && false ≡ false
-and-false true = refl
-and-false false = refl
 
 module _ (p : ℕ → Bool) where
   -- it holds below n and at n

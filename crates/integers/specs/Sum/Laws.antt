@@ -1,4 +1,6 @@
 -- Laws of `sum`: congruence, linearity, order, sums of sums, one place changed, all but one place zero. Assumes nothing.
+pub mod Places
+pub mod Balanced
 use mathlib.Core.Path.{_≡_, refl, sym, _∙_, ap}
 use mathlib.Core.List.{[], _∷_}
 use Prim.Native.Nat.{ℕ, zero, suc, _+_, _*_, _/_, _%_, _<_}

@@ -1,4 +1,5 @@
 -- Laws of decimal numbers. Assumes nothing.
+pub mod Meaning
 use mathlib.Core.Bool.{true, false, cond}
 use mathlib.Core.Path.{_≡_, refl, sym, _∙_, ap}
 use mathlib.Core.List.{[], _∷_, _++_}
@@ -12,7 +13,7 @@ use lib.IntN.{ℤ, pos, negsuc, natAbs, _-ℤ_}
 use lib.Signed.{leZ, mag}
 use lib.ListN.{length, length-append}
 use Rattle.integers.specs.Test.{clash}
-use Rattle.listing.specs.Decimal.{digits, decimal, signed}
+use Rattle.listing.specs.Decimal.{digits, decimal, signedDecimal}
 
 -- a number of one digit, and one of more
 pub digits-one : (places number : ℕ) → number < 10 → digits (suc places) number ≡ (48 + number) ∷ []
@@ -51,13 +52,13 @@ pub below-zero : (z : ℤ) → leZ (pos 0) z ≡ false → negsuc 0 -ℤ z ≡ p
 below-zero (pos n) h = clash (le-leb 0 n (omega arith)) h
 below-zero (negsuc k) h = minus-one-less k
 
-pub signed-minus : (z : ℤ) → leZ (pos 0) z ≡ false → signed z ≡ (45 ∷ []) ++ decimal (mag z + 1)
-unfolding signed
+pub signed-minus : (z : ℤ) → leZ (pos 0) z ≡ false → signedDecimal z ≡ (45 ∷ []) ++ decimal (mag z + 1)
+unfolding signedDecimal
 signed-minus (pos n) h = clash (le-leb 0 n (omega arith)) h
 signed-minus (negsuc k) h = rw add-one
 
-pub signed-plus : (z : ℤ) → leZ (pos 0) z ≡ true → (z ≡ pos (natAbs z)) × (signed z ≡ decimal (natAbs z))
-unfolding signed
+pub signed-plus : (z : ℤ) → leZ (pos 0) z ≡ true → (z ≡ pos (natAbs z)) × (signedDecimal z ≡ decimal (natAbs z))
+unfolding signedDecimal
 signed-plus (pos n) h = (refl, refl)
 signed-plus (negsuc k) h = clash h refl
 
@@ -90,7 +91,7 @@ pub decimal-few : (number : ℕ) → number < 100000 → length (decimal number)
 unfolding decimal
 decimal-few number h = digits-few 20 4 number (omega arith)
 
-pub signed-length : (number : ℤ) → length (signed number) ≤ 21
-unfolding signed
+pub signed-length : (number : ℤ) → length (signedDecimal number) ≤ 21
+unfolding signedDecimal
 signed-length (pos number) = omega (arith, decimal-length number)
 signed-length (negsuc number) = omega (arith, decimal-length (suc number))

@@ -14,21 +14,23 @@ use Rattle.integers.specs.Test.{&&-true}
 use Rattle.integers.specs.Written.{written}
 use Rattle.integers.specs.Written.Laws.{written-at}
 use Rattle.training_file.specs.declared.item.Label.{Label}
-use Rattle.training_file.specs.Reading.{Reading, refused, accepted, reading}
-use Rattle.training_file.specs.ReadingLaws.{accepted-is}
-use Rattle.training_file.specs.Calls.{itemIn, itemsIn, orderIn, outcomeOf, tableAfter}
-use Rattle.training_file.specs.AcceptedLaws.{accepted-ranges, items-counted, items-most, numbers-within}
+use Rattle.training_file.specs.Refusal.{refusal}
+use Rattle.training_file.specs.Parameters.{recordsMost}
+use Rattle.reading.specs.Reading.{Reading, refused, accepted, reading}
+use Rattle.reading.specs.Reading.Laws.{accepted-is}
+use Rattle.reading.specs.Calls.{itemIn, itemsIn, orderIn, fileAnswer, tableAfter}
+use Rattle.reading.specs.Reading.Laws.Accepted.{accepted-ranges, items-counted, items-most, numbers-within}
 use Rattle.dual_problem.specs.Problem.{problem}
 use Rattle.dual_problem.specs.Problem.Laws.{problem-gram}
 use Rattle.dual_problem.specs.Items.{Listed, at}
-use Rattle.dual_problem.specs.Items.Read.{Read, read-listed}
+use Rattle.dual_problem.specs.Items.Laws.Read.{Read, read-listed}
 use Rattle.smo.specs.declared.ending.Ending.{Ending}
 use Rattle.smo.specs.declared.ending.Ending.the-variants.{Converged, Stuck, Spent}
 use Rattle.smo.specs.declared.run.Trained.{Trained}
 use Rattle.smo.specs.Run.{training}
 use Rattle.smo.specs.Run.Laws.{training-sound}
 use Rattle.smo.specs.Answer.{trainedOf}
-use Rattle.smo.specs.Train.{endedWith, refusedWith, trainRead}
+use Rattle.smo.specs.Train.{endedWith, unchanged, trainRead}
 use Rattle.listing.specs.Decimal.{decimal}
 use Rattle.listing.specs.Decimal.Laws.{decimal-few, decimal-length, signed-length}
 use Rattle.listing.specs.Listing.{endingText, itemCount, itemLine, joined, labelSign, lineAt, listing, listingOf, resultLine}
@@ -52,14 +54,14 @@ joined-length zero f h = omega arith
 joined-length (suc n) f {most} h = omega (arith, length-append (joined n f) (f n), joined-length n f (λ i l. h i (omega arith)), h n (le-refl (suc n)))
 
 -- ---- the table that the code reads serves, and its count is that of the items
-pub count-items : (file : List ℕ) → itemCount (outcomeOf (reading file)) ≡ length (itemsIn (reading file))
+pub count-items : (file : List ℕ) → itemCount (fileAnswer (reading file)) ≡ length (itemsIn (reading file))
 count-items file = by (reading file) refl
   where
-    by : (r : Reading) → reading file ≡ r → itemCount (outcomeOf r) ≡ length (itemsIn r)
+    by : (r : Reading) → reading file ≡ r → itemCount (fileAnswer r) ≡ length (itemsIn r)
     by (refused number) e = refl
     by (accepted p order items) e = sym (items-counted file p order items (accepted-is file p order items e))
 
-pub reading-listed : (file table : List ℕ) → length table ≡ 256 → Listed file (tableAfter (reading file) table) (length (itemsIn (reading file)))
+pub reading-listed : (file table : List ℕ) → length table ≡ recordsMost → Listed file (tableAfter (reading file) table) (length (itemsIn (reading file)))
 reading-listed file table long = by (reading file) refl
   where
     by : (r : Reading) → reading file ≡ r → Listed file (tableAfter (reading file) table) (length (itemsIn (reading file)))
@@ -70,10 +72,10 @@ reading-listed file table long = by (reading file) refl
         let r : Read file p (length (itemsIn (reading file))) = record { order = order; items = items; is = e; counted = ap (λ x. length (itemsIn x)) e } in
         read-listed r table long
 
-pub items-few : (file : List ℕ) → length (itemsIn (reading file)) ≤ 256
+pub items-few : (file : List ℕ) → length (itemsIn (reading file)) ≤ recordsMost
 items-few file = by (reading file) refl
   where
-    by : (r : Reading) → reading file ≡ r → length (itemsIn r) ≤ 256
+    by : (r : Reading) → reading file ≡ r → length (itemsIn r) ≤ recordsMost
     by (refused number) e = omega arith
     by (accepted p order items) e = items-most file p order items (accepted-is file p order items e)
 
@@ -86,7 +88,7 @@ listing-trained (accepted p order items) a g h k =
     let P = problem p items in
     let o = training P (p .tolerance) (p .budget) in
     let e : leb (length items) (length a) && leb (length items) (length g) ≡ true = &&-true (le-leb _ _ h) (le-leb _ _ k) in
-    (λ t. let left = cond (e t) (endedWith P o a g) (refusedWith 6 a g) in listing (left .answer) order items (at (left .multipliers)))
+    (λ t. let left = cond (e t) (endedWith P o a g) (unchanged (refusal 6) a g) in listing (left .answer) order items (at (left .multipliers)))
     ∙ ap (λ lines. resultLine (trainedOf P o) ++ lines)
     (joined-cong (length items) (lineAt order items (at (written (length items) (at (o .multipliers)) a))) (lineAt order items (at (o .multipliers)))
     (λ i l. ap (itemLine (getD order i 0) (itemIn items i .label)) (written-at (length items) (at (o .multipliers)) a 0 h i l)))
@@ -120,7 +122,7 @@ listing-fits file = by (reading file) refl
         let line : (i : ℕ) → i < length items → length (lineAt order items (at (o .multipliers)) i) ≤ 14 =
         λ i l. item-length (getD order i 0) (itemIn items i .label) (at (o .multipliers) i)
         (omega (arith, numbers-within file p order items a i (omega (arith, items-counted file p order items a)) .1))
-        (omega (arith, sound .feasible .within i l, accepted-ranges file p order items a .ceiling-greatest)) in
+        (omega (arith, sound .bounded .feasible .within i l, accepted-ranges file p order items a .ceiling-greatest)) in
         omega (arith, length-append (resultLine (trainedOf P o)) (joined (length items) (lineAt order items (at (o .multipliers)))), result-length (trainedOf P o), joined-length (length items) (lineAt order items (at (o .multipliers))) line, items-most file p order items a)
 
 -- a buffer that starts with a listing holds it whole

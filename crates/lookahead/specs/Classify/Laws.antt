@@ -4,39 +4,39 @@ use mathlib.Core.Bool.{Bool, true, false, cond, _&&_}
 use mathlib.Core.List.{List}
 use Prim.Native.Nat.{ℕ}
 use native.Mathlib.Omega.{arith}
-use lib.Dec.{eqb, leb}
+use lib.Dec.{eqb}
 use lib.IntN.{ℤ}
 use lib.ListN.{length}
-use Rattle.integers.specs.Places.{all}
 use Rattle.training_file.specs.declared.parameters.Parameters.{Parameters}
 use Rattle.training_file.specs.declared.item.Item.{Item}
 use Rattle.training_file.specs.declared.refusal.Refusal.{Refusal}
-use Rattle.training_file.specs.declared.reader.Outcome.the-variants as outcome
-use Rattle.training_file.specs.Reading.{Reading, refused, accepted, reading}
-use Rattle.training_file.specs.Calls.{itemIn, itemsIn, outcomeOf}
+use Rattle.training_file.specs.Refusal.{refusal}
+use Rattle.reading.specs.declared.reader.FileAnswer.the-variants as file-answer
+use Rattle.reading.specs.Reading.{Reading, refused, accepted, reading}
+use Rattle.reading.specs.Calls.{itemIn, itemsIn, fileAnswer}
 use Rattle.dual_problem.specs.declared.multipliers.Judgement.{Judgement}
 use Rattle.dual_problem.specs.declared.multipliers.Judgement.the-variants as judged
 use Rattle.dual_problem.specs.Kernel.{kernelValue}
 use Rattle.dual_problem.specs.Kernel.Laws.{kernelValue-comm, kernelValue-cong}
 use Rattle.dual_problem.specs.Problem.{problem}
 use Rattle.dual_problem.specs.Items.{at}
-use Rattle.dual_problem.specs.Items.Read.{Read}
-use Rattle.dual_problem.specs.Multipliers.{balance, is-zero, judgement}
+use Rattle.dual_problem.specs.Items.Laws.Read.{Read}
+use Rattle.dual_problem.specs.Multipliers.{balance, isZero, judgement, withinCeilings}
 use Rattle.dual_problem.specs.Multipliers.Laws.{verdict}
 use Rattle.lookahead.specs.declared.classify.Classified.{Classified}
 use Rattle.lookahead.specs.declared.classify.Classified.the-variants.{Refused, Is}
-use Rattle.lookahead.specs.Classify.{SameFeatures, classOf, classifyItems, classifyJudged, classifyRead, classifying, kernelOf, refusedWith, score, wordAllowed}
+use Rattle.lookahead.specs.Classify.{SameFeatures, classOf, classifyItems, classifyJudged, classifyRead, classifying, score, wordAllowed, wordKernel}
 
 -- ---- the kernel
 -- a list with the word's features, compared with an item, gives K of the item and the word
-pub kernelOf-is : (p : Parameters) (items : List Item) (xs word : List ℤ) → SameFeatures xs word → (i : ℕ) → kernelValue (p .kernel) (p .features) xs (itemIn items i .features) ≡ kernelOf p items word i
-kernelOf-is p items xs word e i =
-    kernelValue-cong (p .kernel) (p .features) xs word (itemIn items i .features) e ∙ kernelValue-comm (p .kernel) (p .features) word (itemIn items i .features)
+pub wordKernel-is : (p : Parameters) (items : List Item) (xs word : List ℤ) → SameFeatures xs word → (i : ℕ) → kernelValue (p .kernel) (p .used) xs (itemIn items i .features) ≡ wordKernel p items word i
+wordKernel-is p items xs word e i =
+    kernelValue-cong (p .kernel) (p .used) xs word (itemIn items i .features) e ∙ kernelValue-comm (p .kernel) (p .used) word (itemIn items i .features)
 
 -- ---- the answer, by the stage that gives it
 -- a refusal of the file is the answer
-pub classify-refused : (r : Reading) (a : List ℕ) (word : List ℤ) (why : Refusal) → outcomeOf r ≡ outcome.Refused why → classifyRead r a word ≡ Refused why
-classify-refused (refused number) a word why e = let q : record { number = number } ≡ why = cc in ap Refused q
+pub classify-refused : (r : Reading) (a : List ℕ) (word : List ℤ) (why : Refusal) → fileAnswer r ≡ file-answer.Refused why → classifyRead r a word ≡ Refused why
+classify-refused (refused number) a word why e = let q : refusal number ≡ why = cc in ap Refused q
 classify-refused (accepted p order items) a word why e = let z : _≡_ {A = ℕ} 0 1 = cc in absurd (omega arith)
 
 -- a file that was read is classified by its items
@@ -49,18 +49,18 @@ module _ (p : Parameters) (items : List Item) (a : List ℕ) (word : List ℤ) w
 
   -- the numbers 6 to 9 are met in this order
   pub refusals-in-order : classifyItems p items a word
-      ≡ cond (eqb (length a) (length items) && eqb (length word) (p .features))
-      (cond (all (length items) (λ i. leb (at a i) (problem p items .ceiling i)))
-      (cond (is-zero (balance (problem p items) (at a)))
-      (cond (wordAllowed word) class (refusedWith 9))
-      (refusedWith 8))
-      (refusedWith 7))
-      (refusedWith 6)
+      ≡ cond (eqb (length a) (length items) && eqb (length word) (p .used))
+      (cond (withinCeilings (length items) (problem p items) (at a))
+      (cond (isZero (balance (problem p items) (at a)))
+      (cond (wordAllowed word) class (Refused (refusal 9)))
+      (Refused (refusal 8)))
+      (Refused (refusal 7)))
+      (Refused (refusal 6))
   refusals-in-order =
-      by (eqb (length a) (length items)) (eqb (length word) (p .features)) (all (length items) (λ i. leb (at a i) (problem p items .ceiling i))) (is-zero (balance (problem p items) (at a)))
+      by (eqb (length a) (length items)) (eqb (length word) (p .used)) (withinCeilings (length items) (problem p items) (at a)) (isZero (balance (problem p items) (at a)))
     where
-      by : (s d t u : Bool) → cond d (classifyJudged p items a word (verdict s t u)) (refusedWith 6)
-          ≡ cond (s && d) (cond t (cond u (cond (wordAllowed word) class (refusedWith 9)) (refusedWith 8)) (refusedWith 7)) (refusedWith 6)
+      by : (s d t u : Bool) → cond d (classifyJudged p items a word (verdict s t u)) (Refused (refusal 6))
+          ≡ cond (s && d) (cond t (cond u (cond (wordAllowed word) class (Refused (refusal 9))) (Refused (refusal 8))) (Refused (refusal 7))) (Refused (refusal 6))
       by true true true true = refl
       by true true true false = refl
       by true true false u = refl
@@ -69,11 +69,11 @@ module _ (p : Parameters) (items : List Item) (a : List ℕ) (word : List ℤ) w
       by false false t u = refl
 
   -- what the word's length and the judging answer decides
-  pub items-are : {d : Bool} {j : Judgement} → eqb (length word) (p .features) ≡ d → judgement (problem p items) a ≡ j
-      → classifyItems p items a word ≡ cond d (classifyJudged p items a word j) (refusedWith 6)
-  items-are e f = λ i. cond (e i) (classifyJudged p items a word (f i)) (refusedWith 6)
+  pub items-are : {d : Bool} {j : Judgement} → eqb (length word) (p .used) ≡ d → judgement (problem p items) a ≡ j
+      → classifyItems p items a word ≡ cond d (classifyJudged p items a word j) (Refused (refusal 6))
+  items-are e f = λ i. cond (e i) (classifyJudged p items a word (f i)) (Refused (refusal 6))
 
   -- feasible multipliers and d features: the range of the features decides
-  pub feasible-are : {t : Bool} → eqb (length word) (p .features) ≡ true → judgement (problem p items) a ≡ judged.Feasible → wordAllowed word ≡ t
-      → classifyItems p items a word ≡ cond t class (refusedWith 9)
-  feasible-are e f g = items-are e f ∙ (λ i. cond (g i) class (refusedWith 9))
+  pub feasible-are : {t : Bool} → eqb (length word) (p .used) ≡ true → judgement (problem p items) a ≡ judged.Feasible → wordAllowed word ≡ t
+      → classifyItems p items a word ≡ cond t class (Refused (refusal 9))
+  feasible-are e f g = items-are e f ∙ (λ i. cond (g i) class (Refused (refusal 9)))

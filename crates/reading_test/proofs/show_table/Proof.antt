@@ -1,5 +1,6 @@
 -- `reading_test::show_table` is safe and ends. Assumes nothing.
 use Prim.Native.Nat.{_-_}
+use lib.ListN.{length}
 use borrow.Author.Needs.{needs}
 use Rattle.reading_test.proofs.show_table.Statement.{statement}
 use Rattle.reading_test.proofs.show_table.Tie as tie
@@ -8,7 +9,7 @@ abbrev Inv-loop : tie.InvT-loop
 Inv-loop table i₀ i = Unit {0}
 
 abbrev μ-loop : tie.MeasureT-loop
-μ-loop table i₀ i = 4 - i
+μ-loop table i₀ i = length table - i
 
 loop-holds : tie.Need-loop-holds Inv-loop μ-loop
 loop-holds c = search needs
@@ -16,8 +17,8 @@ loop-holds c = search needs
 mul-show-number : tie.Need-mul-show-number Inv-loop μ-loop
 mul-show-number c = search needs
 
-element-copy-out-show-number : tie.Need-element-copy-out-show-number Inv-loop μ-loop
-element-copy-out-show-number c = search needs
+shared-slice-read-show-number : tie.Need-shared-slice-read-show-number Inv-loop μ-loop
+shared-slice-read-show-number c = search needs
 
 show-number-requires : tie.Need-show-number-requires Inv-loop μ-loop
 show-number-requires c κs = search needs
@@ -42,7 +43,7 @@ show-table-spec =
     μ-loop
     loop-holds
     mul-show-number
-    element-copy-out-show-number
+    shared-slice-read-show-number
     show-number-requires
     add-i
     loop-less

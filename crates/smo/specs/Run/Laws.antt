@@ -1,5 +1,6 @@
 -- Laws of the run: each step as a loop takes it; the multipliers that a run leaves are feasible and within the distance bound; what
 -- each ending means, and that it is given exactly then; the steps counted are the moves made; a run cut into portions. Assumes nothing.
+pub mod Append
 use mathlib.Core.Path.{_≡_, refl, sym, _∙_, ap, subst}
 use mathlib.Core.Logic.{_↔_, _⊎_, inl, inr, ⊎-elim}
 use mathlib.Core.Bool.{Bool, true, false}
@@ -15,19 +16,19 @@ use Rattle.integers.specs.Linear.{integer, -ℤ-parts, +ℤ-parts}
 use Rattle.integers.specs.Order.{leZ-true, leZ-false}
 use Rattle.integers.specs.Sum.Laws.{sum-zero}
 use Rattle.integers.specs.Gram.{Gram}
-use Rattle.dual_problem.specs.Problem.{Problem, Feasible, y, b-up, b-low, objective, gap, bound, not-below-zero, Within}
-use Rattle.dual_problem.specs.Distance.{distance-bound}
+use Rattle.dual_problem.specs.Problem.{Problem, Feasible, y, bUp, bLow, objective, gap, bound, notBelowZero, WithinDistance}
+use Rattle.dual_problem.specs.Problem.Laws.Distance.{distance-bound}
+use Rattle.dual_problem.specs.Items.{at}
+use Rattle.smo_step.specs.Step.{Candidate, amount, moved, workingPair}
+use Rattle.smo_step.specs.Step.Laws.{moved-length, moved-feasible, moves-apart, candidate-moves}
+use Rattle.smo_step.specs.Move.{NoMoveLowers}
+use Rattle.smo_step.specs.Step.Laws.Amount.{amount-in-room, amount-lowers}
+use Rattle.smo_step.specs.Step.Laws.WorkingPair.{working-pair-sound}
+use Rattle.smo_step.specs.Move.Laws.Stuck.{candidate-lowers, stuck-exactly}
 use Rattle.smo.specs.declared.ending.Ending.{Ending}
 use Rattle.smo.specs.declared.ending.Ending.the-variants.{Converged, Stuck, Spent}
-use Rattle.dual_problem.specs.Items.{at}
-use Rattle.smo.specs.Step.{moved, amount, working-pair}
-use Rattle.smo.specs.Step.Laws.{moved-length, moved-feasible, moves-apart, candidate-moves}
-use Rattle.smo.specs.Move.{NoMoveLowers}
-use Rattle.smo.specs.Amount.{amount-in-room, amount-lowers}
-use Rattle.smo.specs.WorkingPair.{Candidate, working-pair-sound}
-use Rattle.smo.specs.Stuck.{candidate-lowers, stuck-exactly}
-use Rattle.smo.specs.Run.{Next, ends, goes-on, next, Outcome, one-step-more, run, training}
-use Rattle.smo.specs.Run.Meaning.{GapPasses, Means, Sound, Steps, no-step, step, more-steps}
+use Rattle.smo.specs.Run.{Next, ends, goesOn, next, Outcome, oneStepMore, run, training}
+use Rattle.smo.specs.Run.Meaning.{GapPasses, Means, Sound, Steps, noStep, step, moreSteps}
 
 -- ---- no two endings are one
 stuck-converged : Stuck ≡ Converged → ⊥
@@ -41,10 +42,10 @@ spent-stuck q = let z : _≡_ {A = ℕ} 0 1 = cc in omega arith
 
 -- ---- the gap
 -- it is the gap of demand 3 that passes twice the tolerance
-pub gap-passes : (P : Problem) (t : ℕ) (a : List ℕ) → (2 * t < gap (b-low P (at a)) (b-up P (at a))) ↔ GapPasses P t a
-gap-passes P t a = apart (b-low P (at a)) (b-up P (at a))
+pub gap-passes : (P : Problem) (t : ℕ) (a : List ℕ) → (2 * t < gap (bLow P (at a)) (bUp P (at a))) ↔ GapPasses P t a
+gap-passes P t a = apart (bLow P (at a)) (bUp P (at a))
   where
-    by-sign : (lower upper z : ℤ) → lower -ℤ upper ≡ z → (2 * t < not-below-zero z) ↔ ((upper +ℤ pos (2 * t)) <ℤ lower)
+    by-sign : (lower upper z : ℤ) → lower -ℤ upper ≡ z → (2 * t < notBelowZero z) ↔ ((upper +ℤ pos (2 * t)) <ℤ lower)
     by-sign lower upper (pos n) e = omega (arith, integer, -ℤ-parts lower upper, +ℤ-parts upper (pos (2 * t)))
     by-sign lower upper (negsuc n) e = omega (arith, integer, -ℤ-parts lower upper, +ℤ-parts upper (pos (2 * t)))
 
@@ -55,36 +56,36 @@ gap-passes P t a = apart (b-low P (at a)) (b-up P (at a))
 module _ (P : Problem) (t : ℕ) where
   module _ (a : List ℕ) where
     -- by which tests training ends or goes on
-    pub next-converged : leZ (b-low P (at a)) (b-up P (at a) +ℤ pos (2 * t)) ≡ true → next P t a ≡ ends Converged
+    pub next-converged : leZ (bLow P (at a)) (bUp P (at a) +ℤ pos (2 * t)) ≡ true → next P t a ≡ ends Converged
     unfolding next
     next-converged e = rw (e, next)
 
-    pub next-stuck : leZ (b-low P (at a)) (b-up P (at a) +ℤ pos (2 * t)) ≡ false → working-pair P a ≡ none → next P t a ≡ ends Stuck
+    pub next-stuck : leZ (bLow P (at a)) (bUp P (at a) +ℤ pos (2 * t)) ≡ false → workingPair P a ≡ none → next P t a ≡ ends Stuck
     unfolding next
     next-stuck e f = rw (e, next) (rw f)
 
-    pub next-moves : {i j : ℕ} → leZ (b-low P (at a)) (b-up P (at a) +ℤ pos (2 * t)) ≡ false → working-pair P a ≡ some (i, j) → next P t a ≡ goes-on (moved P a i j (amount P a i j))
+    pub next-moves : {i j : ℕ} → leZ (bLow P (at a)) (bUp P (at a) +ℤ pos (2 * t)) ≡ false → workingPair P a ≡ some (i, j) → next P t a ≡ goesOn (moved P a i j (amount P a i j))
     unfolding next
     next-moves e f = rw (e, next) (rw f)
 
     -- what each answer says
     View : Next → Type 0
-    View (ends Converged) = b-low P (at a) ≤ℤ (b-up P (at a) +ℤ pos (2 * t))
-    View (ends Stuck) = GapPasses P t a × (working-pair P a ≡ none)
+    View (ends Converged) = bLow P (at a) ≤ℤ (bUp P (at a) +ℤ pos (2 * t))
+    View (ends Stuck) = GapPasses P t a × (workingPair P a ≡ none)
     View (ends Spent) = ⊥
-    View (goes-on b) = GapPasses P t a × (i : ℕ) × (j : ℕ) × Candidate P a i j × (b ≡ moved P a i j (amount P a i j))
+    View (goesOn b) = GapPasses P t a × (i : ℕ) × (j : ℕ) × Candidate P a i j × (b ≡ moved P a i j (amount P a i j))
 
     view : View (next P t a)
     unfolding View
-    view = by-gap (leZ (b-low P (at a)) (b-up P (at a) +ℤ pos (2 * t))) refl
+    view = by-gap (leZ (bLow P (at a)) (bUp P (at a) +ℤ pos (2 * t))) refl
       where
-        by-pair : leZ (b-low P (at a)) (b-up P (at a) +ℤ pos (2 * t)) ≡ false → (o : Option (ℕ × ℕ)) → working-pair P a ≡ o → View (next P t a)
-        by-pair e none f = subst View (sym (next-stuck e f)) (leZ-false (b-low P (at a)) (b-up P (at a) +ℤ pos (2 * t)) e, f)
-        by-pair e (some ij) f = subst View (sym (next-moves e f)) (leZ-false (b-low P (at a)) (b-up P (at a) +ℤ pos (2 * t)) e, ij .0, ij .1, working-pair-sound P a f, refl)
+        by-pair : leZ (bLow P (at a)) (bUp P (at a) +ℤ pos (2 * t)) ≡ false → (o : Option (ℕ × ℕ)) → workingPair P a ≡ o → View (next P t a)
+        by-pair e none f = subst View (sym (next-stuck e f)) (leZ-false (bLow P (at a)) (bUp P (at a) +ℤ pos (2 * t)) e, f)
+        by-pair e (some ij) f = subst View (sym (next-moves e f)) (leZ-false (bLow P (at a)) (bUp P (at a) +ℤ pos (2 * t)) e, ij .0, ij .1, working-pair-sound P a f, refl)
 
-        by-gap : (b : Bool) → leZ (b-low P (at a)) (b-up P (at a) +ℤ pos (2 * t)) ≡ b → View (next P t a)
-        by-gap true e = subst View (sym (next-converged e)) (leZ-true (b-low P (at a)) (b-up P (at a) +ℤ pos (2 * t)) e)
-        by-gap false e = by-pair e (working-pair P a) refl
+        by-gap : (b : Bool) → leZ (bLow P (at a)) (bUp P (at a) +ℤ pos (2 * t)) ≡ b → View (next P t a)
+        by-gap true e = subst View (sym (next-converged e)) (leZ-true (bLow P (at a)) (bUp P (at a) +ℤ pos (2 * t)) e)
+        by-gap false e = by-pair e (workingPair P a) refl
 
   -- ---- the run, as a loop takes it: it ends at once, or at a limit of 0, or takes a step and has one less left
   pub run-ends : (limit : ℕ) (a : List ℕ) {e : Ending} → next P t a ≡ ends e → run P t limit a ≡ record { ending = e; steps = 0; multipliers = a }
@@ -92,33 +93,33 @@ module _ (P : Problem) (t : ℕ) where
   run-ends zero a h = rw (h, run)
   run-ends (suc limit) a h = rw (h, run)
 
-  pub run-spent : (a : List ℕ) {b : List ℕ} → next P t a ≡ goes-on b → run P t 0 a ≡ record { ending = Spent; steps = 0; multipliers = a }
+  pub run-spent : (a : List ℕ) {b : List ℕ} → next P t a ≡ goesOn b → run P t 0 a ≡ record { ending = Spent; steps = 0; multipliers = a }
   unfolding run
   run-spent a h = rw (h, run)
 
-  pub run-goes-on : (limit : ℕ) (a : List ℕ) {b : List ℕ} → next P t a ≡ goes-on b → run P t (suc limit) a ≡ one-step-more (run P t limit b)
+  pub run-goes-on : (limit : ℕ) (a : List ℕ) {b : List ℕ} → next P t a ≡ goesOn b → run P t (suc limit) a ≡ oneStepMore (run P t limit b)
   unfolding run
   run-goes-on limit a h = rw (h, run)
 
   -- what holds of the outcome of a run that ends at once, and is carried over a step, holds of every run's outcome
   pub run-induction : (Q : ℕ → List ℕ → Outcome → Type 0) → ((limit : ℕ) (a : List ℕ) (e : Ending) → next P t a ≡ ends e → Q limit a (record { ending = e; steps = 0; multipliers = a }))
-      → ((a b : List ℕ) → next P t a ≡ goes-on b → Q 0 a (record { ending = Spent; steps = 0; multipliers = a }))
-      → ((limit : ℕ) (a b : List ℕ) → next P t a ≡ goes-on b → Q limit b (run P t limit b) → Q (suc limit) a (one-step-more (run P t limit b)))
+      → ((a b : List ℕ) → next P t a ≡ goesOn b → Q 0 a (record { ending = Spent; steps = 0; multipliers = a }))
+      → ((limit : ℕ) (a b : List ℕ) → next P t a ≡ goesOn b → Q limit b (run P t limit b) → Q (suc limit) a (oneStepMore (run P t limit b)))
       → (limit : ℕ) (a : List ℕ) → Q limit a (run P t limit a)
   run-induction Q at-end at-limit at-step zero a = by-next (next P t a) refl
     where
       by-next : (n : Next) → next P t a ≡ n → Q 0 a (run P t 0 a)
       by-next (ends e) h = subst (Q 0 a) (sym (run-ends 0 a h)) (at-end 0 a e h)
-      by-next (goes-on b) h = subst (Q 0 a) (sym (run-spent a h)) (at-limit a b h)
+      by-next (goesOn b) h = subst (Q 0 a) (sym (run-spent a h)) (at-limit a b h)
   run-induction Q at-end at-limit at-step (suc limit) a = by-next (next P t a) refl (run-induction Q at-end at-limit at-step limit)
     where
       by-next : (n : Next) → next P t a ≡ n → ((b : List ℕ) → Q limit b (run P t limit b)) → Q (suc limit) a (run P t (suc limit) a)
       by-next (ends e) h ih = subst (Q (suc limit) a) (sym (run-ends (suc limit) a h)) (at-end (suc limit) a e h)
-      by-next (goes-on b) h ih = subst (Q (suc limit) a) (sym (run-goes-on limit a h)) (at-step limit a b h (ih b))
+      by-next (goesOn b) h ih = subst (Q (suc limit) a) (sym (run-goes-on limit a h)) (at-step limit a b h (ih b))
 
   -- ---- the steps counted are the moves made
   pub run-steps : (limit : ℕ) (a : List ℕ) → Steps P t a (run P t limit a .steps) (run P t limit a .multipliers)
-  run-steps = run-induction (λ limit a o. Steps P t a (o .steps) (o .multipliers)) (λ limit a e h. no-step) (λ a b h. no-step) (λ limit a b h s. step h s)
+  run-steps = run-induction (λ limit a o. Steps P t a (o .steps) (o .multipliers)) (λ limit a e h. noStep) (λ a b h. noStep) (λ limit a b h s. step h s)
 
   -- and they are no more than the limit allows
   pub run-steps-limit : (limit : ℕ) (a : List ℕ) → run P t limit a .steps ≤ limit
@@ -126,7 +127,7 @@ module _ (P : Problem) (t : ℕ) where
 
   -- at the multipliers left training ends as the outcome says, or it would go on and all steps are taken
   Final : ℕ → Outcome → Type 0
-  Final limit o = (next P t (o .multipliers) ≡ ends (o .ending)) ⊎ ((o .ending ≡ Spent) × (o .steps ≡ limit) × (b : List ℕ) × (next P t (o .multipliers) ≡ goes-on b))
+  Final limit o = (next P t (o .multipliers) ≡ ends (o .ending)) ⊎ ((o .ending ≡ Spent) × (o .steps ≡ limit) × (b : List ℕ) × (next P t (o .multipliers) ≡ goesOn b))
 
   run-final : (limit : ℕ) (a : List ℕ) → Final limit (run P t limit a)
   unfolding Final
@@ -134,10 +135,10 @@ module _ (P : Problem) (t : ℕ) where
 
   -- ---- a run cut into portions
   -- after k steps the run goes on as a run from where they led
-  pub run-after-steps : {a b : List ℕ} {k : ℕ} → Steps P t a k b → (limit : ℕ) → run P t (k + limit) a ≡ more-steps k (run P t limit b)
-  run-after-steps {a} no-step limit = ap (λ l. run P t l a) (zero-add limit) ∙ (λ d. record { ending = run P t limit a .ending; steps = sym (zero-add (run P t limit a .steps)) d; multipliers = run P t limit a .multipliers })
+  pub run-after-steps : {a b : List ℕ} {k : ℕ} → Steps P t a k b → (limit : ℕ) → run P t (k + limit) a ≡ moreSteps k (run P t limit b)
+  run-after-steps {a} noStep limit = ap (λ l. run P t l a) (zero-add limit) ∙ (λ d. record { ending = run P t limit a .ending; steps = sym (zero-add (run P t limit a .steps)) d; multipliers = run P t limit a .multipliers })
   run-after-steps {a} {b = c} (step {b} {k} h s) limit =
-      ap (λ l. run P t l a) (suc-add k limit) ∙ run-goes-on (k + limit) a h ∙ ap one-step-more (run-after-steps s limit)
+      ap (λ l. run P t l a) (suc-add k limit) ∙ run-goes-on (k + limit) a h ∙ ap oneStepMore (run-after-steps s limit)
       ∙ (λ d. record { ending = run P t limit c .ending; steps = sym (suc-add k (run P t limit c .steps)) d; multipliers = run P t limit c .multipliers })
 
   -- no answer is "spent" before the limit is looked at
@@ -146,7 +147,7 @@ module _ (P : Problem) (t : ℕ) where
   never-spent a h = subst (View a) h (view a)
 
   -- a run that its limit ended goes on, with a higher one, from the multipliers that it left ..
-  pub run-cut-spent : (k limit : ℕ) (a : List ℕ) → run P t k a .ending ≡ Spent → run P t (k + limit) a ≡ more-steps k (run P t limit (run P t k a .multipliers))
+  pub run-cut-spent : (k limit : ℕ) (a : List ℕ) → run P t k a .ending ≡ Spent → run P t (k + limit) a ≡ moreSteps k (run P t limit (run P t k a .multipliers))
   unfolding Final
   run-cut-spent k limit a spent =
       ⊎-elim (λ e. absurd (never-spent (run P t k a .multipliers) (subst (λ q. next P t (run P t k a .multipliers) ≡ ends q) spent e)))
@@ -164,20 +165,20 @@ module _ (P : Problem) (t : ℕ) where
       over e =
           let rest = k - o .steps + limit in
           let q : k + limit ≡ o .steps + rest = omega (arith, run-steps-limit k a) in
-          ap (λ l. run P t l a) q ∙ run-after-steps (run-steps k a) rest ∙ ap (more-steps (o .steps)) (run-ends rest (o .multipliers) e)
+          ap (λ l. run P t l a) q ∙ run-after-steps (run-steps k a) rest ∙ ap (moreSteps (o .steps)) (run-ends rest (o .multipliers) e)
           ∙ (λ d. record { ending = o .ending; steps = add-zero (o .steps) d; multipliers = o .multipliers })
 
   -- ---- "A step is one move", of a pair that moves
-  pub step-moved : {a b : List ℕ} → next P t a ≡ goes-on b → (i : ℕ) × (j : ℕ) × Candidate P a i j × (b ≡ moved P a i j (amount P a i j))
+  pub step-moved : {a b : List ℕ} → next P t a ≡ goesOn b → (i : ℕ) × (j : ℕ) × Candidate P a i j × (b ≡ moved P a i j (amount P a i j))
   unfolding View
   step-moved {a} h = let v = subst (View a) h (view a) in (v .1, v .2, v .3, v .4)
 
   -- ---- the list keeps its length
-  pub step-long : (a : List ℕ) {b : List ℕ} → next P t a ≡ goes-on b → P .count ≤ length a → P .count ≤ length b
+  pub step-long : (a : List ℕ) {b : List ℕ} → next P t a ≡ goesOn b → P .count ≤ length a → P .count ≤ length b
   step-long a h long = let m = step-moved h in omega (arith, ap length (m .3), moved-length P a (m .0) (m .1) (amount P a (m .0) (m .1)))
 
   pub steps-length : {a b : List ℕ} {k : ℕ} → Steps P t a k b → length b ≡ length a
-  steps-length no-step = refl
+  steps-length noStep = refl
   steps-length {a} (step h s) =
       let m = step-moved h in
       steps-length s ∙ ap length (m .3) ∙ moved-length P a (m .0) (m .1) (amount P a (m .0) (m .1))
@@ -187,7 +188,7 @@ module _ (P : Problem) (t : ℕ) where
 
   module _ (gram : Gram (P .count) (P .kernel)) where
     -- ---- a step keeps the multipliers feasible, and lowers the objective by 1 at least; so k steps lower it by k
-    module _ (a : List ℕ) {b : List ℕ} (h : next P t a ≡ goes-on b) (long : P .count ≤ length a) where
+    module _ (a : List ℕ) {b : List ℕ} (h : next P t a ≡ goesOn b) (long : P .count ≤ length a) where
       pub step-feasible : Feasible P (at a) → Feasible P (at b)
       step-feasible f =
           let (i, j, c, e) = step-moved h in
@@ -201,11 +202,11 @@ module _ (P : Problem) (t : ℕ) where
           subst (λ q. objective P (at q) ≤ℤ (objective P (at a) -ℤ pos 1)) (sym e) (amount-lowers P gram a long i j (c .i-within) (c .j-within) (c .is-candidate))
 
     pub steps-feasible : {a b : List ℕ} {k : ℕ} → Steps P t a k b → P .count ≤ length a → Feasible P (at a) → Feasible P (at b)
-    steps-feasible no-step long f = f
+    steps-feasible noStep long f = f
     steps-feasible {a} (step h s) long f = steps-feasible s (step-long a h long) (step-feasible a h long f)
 
     pub steps-lower : {a b : List ℕ} {k : ℕ} → Steps P t a k b → P .count ≤ length a → objective P (at b) ≤ℤ (objective P (at a) -ℤ pos k)
-    steps-lower {a} no-step long = omega (arith, integer, -ℤ-parts (objective P (at a)) (pos 0))
+    steps-lower {a} noStep long = omega (arith, integer, -ℤ-parts (objective P (at a)) (pos 0))
     steps-lower {a} {b = c} (step {b} {k} h s) long =
         let l = step-lowers a h long in
         let r = steps-lower s (step-long a h long) in
@@ -221,7 +222,7 @@ module _ (P : Problem) (t : ℕ) where
       long-left = omega (arith, run-length limit a)
 
       -- .. and no feasible multipliers, on this grid or a finer one, are further below them than the bound, at whichever ending
-      pub run-within : (c : ℕ) → ((i : ℕ) → i < P .count → P .ceiling i ≤ c) → Within (bound (gap (b-low P (at (run P t limit a .multipliers))) (b-up P (at (run P t limit a .multipliers)))) c (P .count)) P (at (run P t limit a .multipliers))
+      pub run-within : (c : ℕ) → ((i : ℕ) → i < P .count → P .ceiling i ≤ c) → WithinDistance (bound (gap (bLow P (at (run P t limit a .multipliers))) (bUp P (at (run P t limit a .multipliers)))) c (P .count)) P (at (run P t limit a .multipliers))
       run-within c top = distance-bound P gram (at (run P t limit a .multipliers)) run-feasible c top
 
       -- the ending means what it says
@@ -237,7 +238,7 @@ module _ (P : Problem) (t : ℕ) where
           ended Stuck v = (v .0, stuck-exactly P gram (o .multipliers) long-left run-feasible .0 (v .1))
           ended Spent v = absurd v
 
-          at-limit : (o .ending ≡ Spent) × (o .steps ≡ limit) × (b : List ℕ) × (next P t (o .multipliers) ≡ goes-on b) → Means P t limit (o .steps) (o .multipliers) (o .ending)
+          at-limit : (o .ending ≡ Spent) × (o .steps ≡ limit) × (b : List ℕ) × (next P t (o .multipliers) ≡ goesOn b) → Means P t limit (o .steps) (o .multipliers) (o .ending)
           at-limit (spent, all, b, h) =
               let v = subst (View (o .multipliers)) h (view (o .multipliers)) in
               subst (Means P t limit (o .steps) (o .multipliers)) (sym spent) (all, v .0, v .1, v .2, v .3)
@@ -247,10 +248,10 @@ module _ (P : Problem) (t : ℕ) where
       left = run P t limit a .multipliers
 
       -- "if b_low ≤ b_up + 2 × t, the ending is converged", and only then
-      pub converged-exactly : (run P t limit a .ending ≡ Converged) ↔ (b-low P (at (run P t limit a .multipliers)) ≤ℤ (b-up P (at (run P t limit a .multipliers)) +ℤ pos (2 * t)))
+      pub converged-exactly : (run P t limit a .ending ≡ Converged) ↔ (bLow P (at (run P t limit a .multipliers)) ≤ℤ (bUp P (at (run P t limit a .multipliers)) +ℤ pos (2 * t)))
       converged-exactly = by-ending (run P t limit a .ending) run-means
         where
-          by-ending : (e : Ending) → Means P t limit (run P t limit a .steps) left e → (e ≡ Converged) ↔ (b-low P (at left) ≤ℤ (b-up P (at left) +ℤ pos (2 * t)))
+          by-ending : (e : Ending) → Means P t limit (run P t limit a .steps) left e → (e ≡ Converged) ↔ (bLow P (at left) ≤ℤ (bUp P (at left) +ℤ pos (2 * t)))
           by-ending Converged m = (λ q. m, λ q. refl)
           by-ending Stuck m = (λ q. absurd (stuck-converged q), λ q. clashℤ (m .0) q)
           by-ending Spent m = (λ q. absurd (spent-converged q), λ q. clashℤ (m .1) q)
@@ -276,7 +277,7 @@ module _ (P : Problem) (t : ℕ) where
 
       -- all of this
       pub run-sound : (c : ℕ) → ((i : ℕ) → i < P .count → P .ceiling i ≤ c) → Sound P t limit c (run P t limit a)
-      run-sound c top = record { feasible = run-feasible; within = run-within c top; in-limit = run-steps-limit limit a; means = run-means; stuck-exactly = stuck-ending-exactly }
+      run-sound c top = record { bounded = record { feasible = run-feasible; distance = run-within c top }; in-limit = run-steps-limit limit a; means = run-means; stuck-exactly = stuck-ending-exactly }
 
 -- ---- the start: "all multipliers 0"
 abbrev pub zeros : ℕ → List ℕ

@@ -15,20 +15,20 @@ use Rattle.integers.specs.Written.{written}
 use Rattle.integers.specs.Written.Laws.{written-at, written-cong, written-front}
 use Rattle.training_file.specs.declared.parameters.Parameters.{Parameters}
 use Rattle.training_file.specs.declared.refusal.Refusal.{Refusal}
-use Rattle.training_file.specs.declared.reader.Outcome.the-variants as outcome
-use Rattle.training_file.specs.Reading.{Reading, refused, accepted, reading}
-use Rattle.training_file.specs.Calls.{itemsIn, outcomeOf}
+use Rattle.training_file.specs.Refusal.{refusal}
+use Rattle.reading.specs.declared.reader.FileAnswer.the-variants as file-answer
+use Rattle.reading.specs.Reading.{Reading, refused, accepted}
+use Rattle.reading.specs.Calls.{itemsIn, fileAnswer}
 use Rattle.dual_problem.specs.Problem.{Problem, Feasible, problem, gradient}
 use Rattle.dual_problem.specs.Problem.Laws.{problem-gram}
-use Rattle.dual_problem.specs.Problem.Same.{gradient-cong, b-up-cong, b-low-cong, feasible-cong}
-use Rattle.dual_problem.specs.Items.{at, problem-of}
-use Rattle.dual_problem.specs.Items.Read.{Read}
-use Rattle.smo.specs.declared.train.Training.the-variants.{Refused}
+use Rattle.dual_problem.specs.Problem.Laws.Same.{gradient-cong, b-up-cong, b-low-cong, feasible-cong}
+use Rattle.dual_problem.specs.Items.{at, problemOf}
+use Rattle.dual_problem.specs.Items.Laws.Read.{Read}
 use Rattle.smo.specs.Run.{run, training}
 use Rattle.smo.specs.Run.Laws.{zeros, zeros-length, zeros-feasible, training-length, training-sound}
-use Rattle.smo.specs.Run.Append.{run-append}
+use Rattle.smo.specs.Run.Laws.Append.{run-append}
 use Rattle.smo.specs.Answer.{trainedOf}
-use Rattle.smo.specs.Train.{Trusted, Demand3, endedWith, refusedWith, trainRead}
+use Rattle.smo.specs.Train.{ResultQuality, TrainingQuality, endedWith, unchanged, trainFile, trainRead}
 
 module _ (P : Problem) (l : List ℕ) (long : P .count ≤ length l) where
   -- the list with 0 at the first n places
@@ -77,21 +77,21 @@ module _ (P : Problem) (l : List ℕ) (long : P .count ≤ length l) where
         ∙ ap (λ n. take n (training P t budget .multipliers ++ drop (P .count) l)) (sym (training-length P t budget)) ∙ take-append-seam (training P t budget .multipliers) (drop (P .count) l)
 
 -- ---- demand 3
-pub training-trusted : (r : Reading) (a : List ℕ) (g : List ℤ) → Demand3 r (trainRead r a g .answer) (trainRead r a g .multipliers)
-training-trusted (refused number) a g = tt
-training-trusted (accepted p order items) a g = by (leb (length items) (length a) && leb (length items) (length g)) refl
+pub training-quality : (r : Reading) (a : List ℕ) (g : List ℤ) → TrainingQuality r (trainRead r a g .answer) (trainRead r a g .multipliers)
+training-quality (refused number) a g = tt
+training-quality (accepted p order items) a g = by (leb (length items) (length a) && leb (length items) (length g)) refl
   where
     by : (x : Bool) → leb (length items) (length a) && leb (length items) (length g) ≡ x
-        → Demand3 (accepted p order items) (cond x (endedWith (problem p items) (training (problem p items) (p .tolerance) (p .budget)) a g) (refusedWith 6 a g) .answer) (cond x (endedWith (problem p items) (training (problem p items) (p .tolerance) (p .budget)) a g) (refusedWith 6 a g) .multipliers)
+        → let left = cond x (endedWith (problem p items) (training (problem p items) (p .tolerance) (p .budget)) a g) (unchanged (refusal 6) a g) in
+        TrainingQuality (accepted p order items) (left .answer) (left .multipliers)
     by false e = tt
     by true e =
         let P = problem p items in
         let s = training-sound P (problem-gram p items) (p .tolerance) (p .budget) (p .ceiling) (λ i l. le-refl (p .ceiling)) in
         let long : length items ≤ length a = leb-true (length items) (length a) (&&-left (leb (length items) (length a)) (leb (length items) (length g)) e) in
-        subst (Trusted p P (trainedOf P (training P (p .tolerance) (p .budget)))) (sym (left-front P a long (p .tolerance) (p .budget)))
+        subst (ResultQuality p P (trainedOf P (training P (p .tolerance) (p .budget)))) (sym (left-front P a long (p .tolerance) (p .budget)))
         (record {
-          feasible = s .feasible;
-          distance = s .within;
+          bounded = s .bounded;
           in-budget = s .in-limit;
           means = s .means;
           stuck-exactly = s .stuck-exactly;
@@ -99,20 +99,20 @@ training-trusted (accepted p order items) a g = by (leb (length items) (length a
 
 -- ---- the call
 -- a refusal of the file is the answer, and nothing changes
-pub train-refused : (r : Reading) (a : List ℕ) (g : List ℤ) (why : Refusal) → outcomeOf r ≡ outcome.Refused why → trainRead r a g ≡ record { answer = Refused why; multipliers = a; gradient = g }
-train-refused (refused number) a g why e = let q : record { number = number } ≡ why = cc in λ k. record { answer = Refused (q k); multipliers = a; gradient = g }
+pub train-refused : (r : Reading) (a : List ℕ) (g : List ℤ) (why : Refusal) → fileAnswer r ≡ file-answer.Refused why → trainRead r a g ≡ unchanged why a g
+train-refused (refused number) a g why e = let q : refusal number ≡ why = cc in λ k. unchanged (q k) a g
 train-refused (accepted p order items) a g why e = let z : _≡_ {A = ℕ} 0 1 = cc in absurd (omega arith)
 
 module _ {file : List ℕ} {p : Parameters} {n : ℕ} (r : Read file p n) (a : List ℕ) (g : List ℤ) where
   -- a list is too short
-  pub train-short : leb n (length a) && leb n (length g) ≡ false → trainRead (reading file) a g ≡ refusedWith 6 a g
+  pub train-short : leb n (length a) && leb n (length g) ≡ false → trainFile file a g ≡ unchanged (refusal 6) a g
   train-short e =
       ap (λ x. trainRead x a g) (r .is)
-      ∙ ap (λ x. cond x (endedWith (problem p (r .items)) (training (problem p (r .items)) (p .tolerance) (p .budget)) a g) (refusedWith 6 a g)) (ap (λ m. leb m (length a) && leb m (length g)) (sym (r .counted)) ∙ e)
+      ∙ ap (λ x. cond x (endedWith (problem p (r .items)) (training (problem p (r .items)) (p .tolerance) (p .budget)) a g) (unchanged (refusal 6) a g)) (ap (λ m. leb m (length a) && leb m (length g)) (sym (r .counted)) ∙ e)
 
   -- both are long enough
-  pub train-ended : leb n (length a) && leb n (length g) ≡ true → trainRead (reading file) a g ≡ endedWith (problem-of file p) (training (problem-of file p) (p .tolerance) (p .budget)) a g
+  pub train-ended : leb n (length a) && leb n (length g) ≡ true → trainFile file a g ≡ endedWith (problemOf file p) (training (problemOf file p) (p .tolerance) (p .budget)) a g
   train-ended e =
       ap (λ x. trainRead x a g) (r .is)
-      ∙ ap (λ x. cond x (endedWith (problem p (r .items)) (training (problem p (r .items)) (p .tolerance) (p .budget)) a g) (refusedWith 6 a g)) (ap (λ m. leb m (length a) && leb m (length g)) (sym (r .counted)) ∙ e)
+      ∙ ap (λ x. cond x (endedWith (problem p (r .items)) (training (problem p (r .items)) (p .tolerance) (p .budget)) a g) (unchanged (refusal 6) a g)) (ap (λ m. leb m (length a) && leb m (length g)) (sym (r .counted)) ∙ e)
       ∙ sym (ap (λ x. endedWith (problem p (itemsIn x)) (training (problem p (itemsIn x)) (p .tolerance) (p .budget)) a g) (r .is))

@@ -4,9 +4,9 @@ use Prim.Native.Nat.{_≤_}
 use native.Mathlib.Omega.{arith}
 use lib.ListN.{length}
 use lib.Seq.{length-take-le}
-use Rattle.listing.specs.Listing.Laws.{listing-within}
-use Rattle.train.specs.Input.{Within}
 use borrow.Author.Needs.{needs}
+use Rattle.listing.specs.Listing.Laws.{listing-within}
+use Rattle.train.specs.Input.{FitsBuffer}
 use Rattle.train.proofs.main.Statement.{statement}
 use Rattle.train.proofs.main.Tie as tie
 
@@ -32,7 +32,7 @@ returns : tie.Need-returns
 returns c = search needs
 
 file-fits : (c : tie.After-known-told) → c .before .input .given .0 .0 ≤ length (c .before .before .before .before .read-input .last .0)
-file-fits c = omega (arith, subst (λ r. Within 0 r _) (c .before .input .given .1) (c .before .before .before .before .read-input .ensures), c .before .before .before .before .read-input .kept .0)
+file-fits c = omega (arith, subst (λ r. FitsBuffer 0 r _) (c .before .input .given .1) (c .before .before .before .before .read-input .ensures), c .before .before .before .before .read-input .kept .0)
 
 array-share-prefix-file : tie.Need-array-share-prefix-file
 array-share-prefix-file c = file-fits c

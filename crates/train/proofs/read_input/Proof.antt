@@ -5,7 +5,7 @@ use Prim.Native.Nat.{_+_, _-_, _≤_}
 use native.Mathlib.Omega.{arith}
 use borrow.Author.Needs.{needs}
 use lib.ListN.{length}
-use Rattle.train.specs.Input.{Within}
+use Rattle.train.specs.Input.{FitsBuffer}
 use Rattle.train.proofs.read_input.Statement.{statement}
 use Rattle.train.proofs.read_input.Tie as tie
 
@@ -41,7 +41,7 @@ returns-2 c = search needs
 
 -- what was read fits after what was there
 more-fits : (c : tie.Else1 Inv-loop μ-loop) → c .before .before .before .before .before .before .before .before .before .loop .count + c .before .before .input .given .0 .0 ≤ length (c .before .before .before .before .before .before .before .before .before .loop .buffer)
-more-fits c = subst (λ r. Within (c .before .before .before .before .before .before .before .before .before .loop .count) r (c .before .before .before .before .before .before .before .before .before .loop .buffer)) (c .before .before .input .given .1) (c .before .before .before .before .before .before .read-some .ensures)
+more-fits c = subst (λ r. FitsBuffer (c .before .before .before .before .before .before .before .before .before .loop .count) r (c .before .before .before .before .before .before .before .before .before .loop .buffer)) (c .before .before .input .given .1) (c .before .before .before .before .before .before .read-some .ensures)
 
 add-count : tie.Need-add-count Inv-loop μ-loop
 add-count c = omega (arith, more-fits c, c .before .before .before .before .before .before .before .before .before .before .before .good .0 .0)

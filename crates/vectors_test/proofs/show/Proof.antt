@@ -1,8 +1,8 @@
 -- `vectors_test::show` is safe: the listing that it writes lies in its buffer. Assumes nothing.
 use mathlib.Core.Path.{sym}
 use lib.Seq.{length-take-le}
-use Rattle.listing.specs.Listing.Laws.{listing-within}
 use borrow.Author.Needs.{needs}
+use Rattle.listing.specs.Listing.Laws.{listing-within}
 use Rattle.vectors_test.proofs.show.Statement.{statement}
 use Rattle.vectors_test.proofs.show.Tie as tie
 

@@ -1,13 +1,13 @@
 -- `dual_problem::certify::certify` meets its contract. Assumes nothing.
 use mathlib.Core.Path.{refl, sym, _∙_, ap, subst}
-use Rattle.training_file.specs.Reading.{reading}
-use Rattle.training_file.specs.Calls.{outcomeRefusal}
+use borrow.Author.Needs.{needs}
+use Rattle.reading.specs.Reading.{reading}
+use Rattle.reading.specs.Calls.{fileRefusal}
 use Rattle.dual_problem.specs.declared.certify.Certified.the-variants.{Refused}
 use Rattle.dual_problem.specs.Items.{Listed}
-use Rattle.dual_problem.specs.Items.Read.{outcome-read, read-listed, read-ranges}
-use Rattle.dual_problem.specs.Certify.{Certain}
-use Rattle.dual_problem.specs.Certify.Laws.{certifying-certain, certify-refused, certify-read}
-use borrow.Author.Needs.{needs}
+use Rattle.dual_problem.specs.Items.Laws.Read.{answer-read, read-listed, read-ranges}
+use Rattle.dual_problem.specs.Certify.{CertifiedDistance}
+use Rattle.dual_problem.specs.Certify.Laws.{certified-distance, certify-refused, certify-read}
 use Rattle.dual_problem.proofs.certify.certify.Statement.{statement}
 use Rattle.dual_problem.proofs.certify.certify.Tie as tie
 
@@ -17,8 +17,8 @@ slice-aggregate-order c = search needs
 order-requires : tie.Need-order-requires
 order-requires c κs = search needs
 
-enum-known-outcome : tie.Need-enum-known-outcome
-enum-known-outcome c = search needs
+enum-known-answer : tie.Need-enum-known-answer
+enum-known-answer c = search needs
 
 enum-told : tie.Need-enum-told
 enum-told c = search needs
@@ -32,8 +32,8 @@ returns c =
     let f = s .args .file .now in
     let a = s .args .multipliers .now in
     let why = c .before .enum-told .given .1 in
-    let e = ap Refused (c .refusal .ensures ∙ ap outcomeRefusal why) ∙ sym (certify-refused (reading f) a _ (sym (c .before .before .before .before .order2 .ensures .0) ∙ why)) in
-    (e, subst (Certain (reading f) a) (sym e) (certifying-certain (reading f) a))
+    let e = ap Refused (c .refusal .ensures ∙ ap fileRefusal why) ∙ sym (certify-refused (reading f) a _ (sym (c .before .before .before .before .order2 .ensures .0) ∙ why)) in
+    (e, subst (CertifiedDistance (reading f) a) (sym e) (certified-distance (reading f) a))
 
 slice-aggregate-certify-read : tie.Need-slice-aggregate-certify-read
 slice-aggregate-certify-read c = search needs
@@ -42,17 +42,17 @@ certify-read-requires : tie.Need-certify-read-requires
 certify-read-requires c κs =
     let f = c .before .before .before .before .before .before .before .before .before .args .file .now in
     let call = c .before .before .before .before .before .order2 .ensures in
-    let r = outcome-read f _ _ (sym (call .0) ∙ c .before .before .outcome .given .1) in
-    (subst (λ table. Listed f table (c .before .before .outcome .given .0 .1 .0)) (sym (call .1)) (read-listed r _ refl), read-ranges r)
+    let r = answer-read f _ _ (sym (call .0) ∙ c .before .before .answer .given .1) in
+    (subst (λ table. Listed f table (c .before .before .answer .given .0 .1 .0)) (sym (call .1)) (read-listed r _ refl), read-ranges r)
 
 returns-2 : tie.Need-returns-2
 returns-2 c =
     let s = c .before .before .before .before .before .before .before .before .before .before in
     let f = s .args .file .now in
     let a = s .args .multipliers .now in
-    let r = outcome-read f _ _ (sym (c .before .before .before .before .before .before .order2 .ensures .0) ∙ c .before .before .before .outcome .given .1) in
+    let r = answer-read f _ _ (sym (c .before .before .before .before .before .before .order2 .ensures .0) ∙ c .before .before .before .answer .given .1) in
     let e = c .certify-read .ensures ∙ certify-read f a r in
-    (e, subst (Certain (reading f) a) (sym e) (certifying-certain (reading f) a))
+    (e, subst (CertifiedDistance (reading f) a) (sym e) (certified-distance (reading f) a))
 
 pub certify-spec : {M : Type 1} → statement M
 certify-spec =
@@ -60,7 +60,7 @@ certify-spec =
     (tie.spec
     slice-aggregate-order
     order-requires
-    enum-known-outcome
+    enum-known-answer
     enum-told
     refusal-requires
     returns

@@ -2,18 +2,18 @@
 use mathlib.Core.Path.{sym, _∙_, ap}
 use native.Mathlib.Nat.{le-trans}
 use native.Mathlib.Omega.{arith}
-use Rattle.dual_problem.specs.declared.certify.Certified.the-variants.{Refused, Accepted}
+use borrow.Author.Needs.{needs}
+use Rattle.dual_problem.specs.declared.certify.Certified.the-variants.{Refused, Found}
 use Rattle.dual_problem.specs.Problem.{Problem}
-use Rattle.dual_problem.specs.Items.{problem-of}
+use Rattle.dual_problem.specs.Items.{problemOf}
 use Rattle.dual_problem.specs.Multipliers.{judgementRefusal}
 use Rattle.dual_problem.specs.Multipliers.Laws.{judgement-feasible}
 use Rattle.dual_problem.specs.Certify.{certifyJudged}
-use borrow.Author.Needs.{needs}
 use Rattle.dual_problem.proofs.certify.certify_read.Statement.{statement}
 use Rattle.dual_problem.proofs.certify.certify_read.Tie as tie
 
 abbrev P : tie.Start → Problem
-P s = problem-of (s .args .file .now) (s .args .parameters)
+P s = problemOf (s .args .file .now) (s .args .parameters)
 
 judge-requires : tie.Need-judge-requires
 judge-requires c κs = search needs
@@ -39,7 +39,7 @@ find-thresholds-requires c κs =
     let f = judgement-feasible (P s) (s .args .multipliers .now) (sym (c .before .before .judge .ensures) ∙ c .enum-told .given .1) in
     record {
       table = s .pre .0;
-      used = s .pre .1 .features-greatest;
+      used = s .pre .1 .used-greatest;
       grid = s .pre .1 .grid-greatest;
       long = omega (arith, f .0, s .pre .0 .counted);
       small = λ i l. le-trans (f .1 .within i (omega (arith, s .pre .0 .counted))) (s .pre .1 .ceiling-greatest);
@@ -48,7 +48,7 @@ find-thresholds-requires c κs =
 returns-2 : tie.Need-returns-2
 returns-2 c =
     let s = c .before .before .before .before .before .before .before in
-    ap Accepted (c .find-thresholds .ensures) ∙ sym (ap (certifyJudged (P s) (s .args .multipliers .now)) (sym (c .before .before .before .judge .ensures) ∙ c .before .enum-told .given .1))
+    ap Found (c .find-thresholds .ensures) ∙ sym (ap (certifyJudged (P s) (s .args .multipliers .now)) (sym (c .before .before .before .judge .ensures) ∙ c .before .enum-told .given .1))
 
 pub certify-read-spec : {M : Type 1} → statement M
 certify-read-spec =

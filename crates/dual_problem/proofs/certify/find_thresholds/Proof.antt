@@ -5,18 +5,18 @@ use native.Mathlib.Omega.{arith}
 use lib.IntN.{ℤ, pos}
 use lib.ListN.{getD}
 use mir.Syntax.{w64}
+use borrow.Author.Needs.{needs}
 use Rattle.integers.specs.Bounds.{reads-element}
 use Rattle.integers.specs.Written.Laws.{written-at}
 use Rattle.dual_problem.specs.Problem.{Problem, gradient}
-use Rattle.dual_problem.specs.Items.{at, problem-of}
+use Rattle.dual_problem.specs.Items.{at, problemOf}
 use Rattle.dual_problem.specs.Thresholds.{bestValue}
 use Rattle.dual_problem.specs.Thresholds.Laws.{low-value, up-value}
-use borrow.Author.Needs.{needs}
 use Rattle.dual_problem.proofs.certify.find_thresholds.Statement.{statement}
 use Rattle.dual_problem.proofs.certify.find_thresholds.Tie as tie
 
 abbrev P : tie.Start → Problem
-P s = problem-of (s .args .file .now) (s .args .parameters)
+P s = problemOf (s .args .file .now) (s .args .parameters)
 
 abbrev a : tie.Start → ℕ → ℕ
 a s = at (s .args .multipliers .now)

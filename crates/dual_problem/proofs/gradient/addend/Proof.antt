@@ -5,17 +5,18 @@ use native.Mathlib.Omega.{arith}
 use lib.IntN.{ℤ, pos, natAbs, _*ℤ_, zero-*ℤ}
 use mir.Syntax.{w64}
 use Rattle.integers.specs.Bounds.{reads-back}
-use Rattle.dual_problem.specs.Kernel.{kernelValue, largest-kernel}
+use Rattle.dual_problem.specs.Size.{termMost}
+use Rattle.dual_problem.specs.Kernel.{kernelValue}
 use Rattle.dual_problem.specs.Kernel.Laws.{kernel-reads, kernel-sized}
 use Rattle.dual_problem.specs.Problem.{sign, y}
-use Rattle.dual_problem.specs.Items.{kernelWith, problem-of}
+use Rattle.dual_problem.specs.Items.{kernelWith, problemOf}
 use Rattle.dual_problem.proofs.gradient.addend.Statement.{statement}
 use Rattle.dual_problem.proofs.gradient.addend.Tie as tie
 
 returns : tie.Need-returns
 returns c =
     let a = c .before .before .before .args in
-    let P = problem-of (a .file .now) (a .parameters) in
+    let P = problemOf (a .file .now) (a .parameters) in
     let k = kernelWith (a .file .now) (a .parameters) (a .x .features) (a .place) in
     (sym ((λ i. pos (c .if1 .taken i) *ℤ y P (a .place) *ℤ k) ∙ ap (λ z. z *ℤ k) (zero-*ℤ (y P (a .place))) ∙ zero-*ℤ k), omega arith)
 
@@ -33,7 +34,7 @@ module _ (c : tie.After-term) where
   s = c .before .before .before .before .before .before
 
   added : ℤ
-  added = pos (s .args .multiplier) *ℤ y (problem-of (s .args .file .now) (s .args .parameters)) (s .args .place) *ℤ kernelWith (s .args .file .now) (s .args .parameters) (s .args .x .features) (s .args .place)
+  added = pos (s .args .multiplier) *ℤ y (problemOf (s .args .file .now) (s .args .parameters)) (s .args .place) *ℤ kernelWith (s .args .file .now) (s .args .parameters) (s .args .x .features) (s .args .place)
 
   added-is : c .term .result ≡ added
   unfolding s added
@@ -41,16 +42,16 @@ module _ (c : tie.After-term) where
       let z = c .before .before .fetch .ensures in
       c .term .ensures .0
       ∙ (λ i. pos (s .args .multiplier) *ℤ sign (z i .label) *ℤ kernel-reads (c .before .kernel-value .result) (c .before .kernel-value .ensures .1) i)
-      ∙ (λ i. pos (s .args .multiplier) *ℤ y (problem-of (s .args .file .now) (s .args .parameters)) (s .args .place) *ℤ (c .before .kernel-value .ensures .0 ∙ (λ i. kernelValue (s .args .parameters .kernel) (s .args .parameters .features) (s .args .x .features) (z i .features))) i)
+      ∙ (λ i. pos (s .args .multiplier) *ℤ y (problemOf (s .args .file .now) (s .args .parameters)) (s .args .place) *ℤ (c .before .kernel-value .ensures .0 ∙ (λ i. kernelValue (s .args .parameters .kernel) (s .args .parameters .used) (s .args .x .features) (z i .features))) i)
 
-  added-size : natAbs added ≤ 65536 * largest-kernel 16 128
-  added-size = subst (λ z. natAbs z ≤ 65536 * largest-kernel 16 128) added-is (c .term .ensures .1)
+  added-size : natAbs added ≤ termMost
+  added-size = subst (λ z. natAbs z ≤ termMost) added-is (c .term .ensures .1)
 
 returns-2 : tie.Need-returns-2
 unfolding s added
 returns-2 c =
     let e = reads-back w64 (added-is c) (omega (arith, added-size c)) in
-    (e, subst (λ z. natAbs z ≤ 65536 * largest-kernel 16 128) (sym e) (added-size c))
+    (e, subst (λ z. natAbs z ≤ termMost) (sym e) (added-size c))
 
 pub addend-spec : {M : Type 1} → statement M
 addend-spec = tie.close (tie.spec returns fetch-requires kernel-value-requires term-requires returns-2)

@@ -9,13 +9,14 @@ use mir.Syntax.{w64}
 use Rattle.integers.specs.Bounds.{reads-back}
 use Rattle.integers.specs.Written.{written}
 use Rattle.integers.specs.Written.Laws.{length-written}
+use Rattle.dual_problem.specs.Size.{gradientMost}
 use Rattle.dual_problem.specs.Problem.{gradient as gradientOf}
-use Rattle.dual_problem.specs.Items.{at, largest-gradient, problem-of}
+use Rattle.dual_problem.specs.Items.{at, problemOf}
 use Rattle.dual_problem.proofs.gradient.fill_gradient.Statement.{statement}
 use Rattle.dual_problem.proofs.gradient.fill_gradient.Tie as tie
 
 abbrev Inv-loop : tie.InvT-loop
-Inv-loop file order count parameters multipliers gradient₀ i₀ gradient i = (i ≤ count) × (gradient ≡ written i (gradientOf (problem-of file parameters) (at multipliers)) gradient₀)
+Inv-loop file order count parameters multipliers gradient₀ i₀ gradient i = (i ≤ count) × (gradient ≡ written i (gradientOf (problemOf file parameters) (at multipliers)) gradient₀)
 
 abbrev μ-loop : tie.MeasureT-loop
 μ-loop file order count parameters multipliers gradient₀ i₀ gradient i = count - i
@@ -42,7 +43,7 @@ loop-less c = omega arith
 loop-again : tie.Need-loop-again Inv-loop μ-loop
 unfolding written
 loop-again c =
-    let e = reads-back w64 (c .gradient-at .ensures .0) (omega (arith, subst (λ z. natAbs z ≤ largest-gradient) (c .gradient-at .ensures .0) (c .gradient-at .ensures .1))) in
+    let e = reads-back w64 (c .gradient-at .ensures .0) (omega (arith, subst (λ z. natAbs z ≤ gradientMost) (c .gradient-at .ensures .0) (c .gradient-at .ensures .1))) in
     (omega arith, rw add-one (λ k. set (c .before .before .loop .inv .1 k) (c .before .before .loop .i) (e k)))
 
 same-length : tie.Need-same-length Inv-loop μ-loop
@@ -52,7 +53,7 @@ returns : tie.Need-returns Inv-loop μ-loop
 returns c =
     let a = c .before .before .before .before .before .args in
     let e : c .before .loop .i ≡ a .count = omega arith in
-    c .before .loop .inv .1 ∙ ap (λ k. written k (gradientOf (problem-of (a .file .now) (a .parameters)) (at (a .multipliers .now))) (a .gradient .now)) e
+    c .before .loop .inv .1 ∙ ap (λ k. written k (gradientOf (problemOf (a .file .now) (a .parameters)) (at (a .multipliers .now))) (a .gradient .now)) e
 
 pub fill-gradient-spec : {M : Type 1} → statement M
 fill-gradient-spec =

@@ -8,9 +8,10 @@ use lib.IntN.{ℤ, pos, natAbs, _-ℤ_, _*ℤ_}
 use mir.Syntax.{w64}
 use mir.Val.{toZ, ofZ}
 use Rattle.integers.specs.Bounds.{fits-width, reads-back, -ℤ-bound}
-use Rattle.dual_problem.specs.Kernel.{largest-kernel}
+use Rattle.training_file.specs.Parameters.{gridMost}
+use Rattle.dual_problem.specs.Size.{gradientMost, weighedMost}
 use Rattle.dual_problem.specs.Problem.{Problem, gradient, sign, y}
-use Rattle.dual_problem.specs.Items.{at, kernelWith, largest-gradient, problem-of, weighedSum}
+use Rattle.dual_problem.specs.Items.{at, kernelWith, problemOf, weighedSum}
 use Rattle.dual_problem.proofs.gradient.gradient_at.Statement.{statement}
 use Rattle.dual_problem.proofs.gradient.gradient_at.Tie as tie
 
@@ -20,15 +21,15 @@ fetch-requires c κs = let p = c .before .before .before .pre in p .0 .table .ta
 weighed-sum-requires : tie.Need-weighed-sum-requires
 weighed-sum-requires c κs = search needs
 
-signed-requires : tie.Need-signed-requires
-signed-requires c κs = search needs
+with-sign-requires : tie.Need-with-sign-requires
+with-sign-requires c κs = search needs
 
-module _ (c : tie.After-signed) where
+module _ (c : tie.After-with-sign) where
   s : tie.Start
   s = c .before .before .before .before .before .before
 
   P : Problem
-  P = problem-of (s .args .file .now) (s .args .parameters)
+  P = problemOf (s .args .file .now) (s .args .parameters)
 
   -- the sum over all items, and S times the label's sign
   whole : ℤ
@@ -43,21 +44,21 @@ module _ (c : tie.After-signed) where
       c .before .weighed-sum .ensures .0
       ∙ (λ k. weighedSum P (at (s .args .multipliers .now)) (kernelWith (s .args .file .now) (s .args .parameters) (c .before .before .fetch .ensures k .features)))
 
-  whole-size : natAbs whole ≤ 256 * (65536 * largest-kernel 16 128)
-  whole-size = subst (λ z. natAbs z ≤ 256 * (65536 * largest-kernel 16 128)) whole-is (c .before .weighed-sum .ensures .1)
+  whole-size : natAbs whole ≤ weighedMost
+  whole-size = subst (λ z. natAbs z ≤ weighedMost) whole-is (c .before .weighed-sum .ensures .1)
 
-  label-part-is : c .signed .result ≡ label-part
+  label-part-is : c .with-sign .result ≡ label-part
   unfolding s P label-part
-  label-part-is = c .signed .ensures .0 ∙ (λ k. pos (s .args .parameters .grid) *ℤ sign (c .before .before .fetch .ensures k .label))
+  label-part-is = c .with-sign .ensures .0 ∙ (λ k. pos (s .args .parameters .grid) *ℤ sign (c .before .before .fetch .ensures k .label))
 
-  label-part-size : natAbs label-part ≤ 1048576
+  label-part-size : natAbs label-part ≤ gridMost
   unfolding s
-  label-part-size = subst (λ z. natAbs z ≤ 1048576) label-part-is (le-trans (c .signed .ensures .1) (s .pre .0 .grid))
+  label-part-size = subst (λ z. natAbs z ≤ gridMost) label-part-is (le-trans (c .with-sign .ensures .1) (s .pre .0 .grid))
 
-  difference-is : toZ w64 (ofZ w64 (c .before .weighed-sum .result)) -ℤ toZ w64 (ofZ w64 (c .signed .result)) ≡ whole -ℤ label-part
+  difference-is : toZ w64 (ofZ w64 (c .before .weighed-sum .result)) -ℤ toZ w64 (ofZ w64 (c .with-sign .result)) ≡ whole -ℤ label-part
   difference-is = λ i. reads-back w64 whole-is (omega (arith, whole-size)) i -ℤ reads-back w64 label-part-is (omega (arith, label-part-size)) i
 
-  difference-size : natAbs (whole -ℤ label-part) ≤ largest-gradient
+  difference-size : natAbs (whole -ℤ label-part) ≤ gradientMost
   difference-size = -ℤ-bound whole label-part whole-size label-part-size
 
 sub-result : tie.Need-sub-result
@@ -67,7 +68,7 @@ returns : tie.Need-returns
 unfolding s P whole label-part gradient
 returns c =
     let e = reads-back w64 (difference-is c) (omega (arith, difference-size c)) in
-    (e, subst (λ z. natAbs z ≤ largest-gradient) (sym e) (difference-size c))
+    (e, subst (λ z. natAbs z ≤ gradientMost) (sym e) (difference-size c))
 
 pub gradient-at-spec : {M : Type 1} → statement M
-gradient-at-spec = tie.close (tie.spec fetch-requires weighed-sum-requires signed-requires sub-result returns)
+gradient-at-spec = tie.close (tie.spec fetch-requires weighed-sum-requires with-sign-requires sub-result returns)

@@ -9,29 +9,30 @@ use mir.Facts.{toZ-ofZ}
 use mir.Syntax.{w64}
 use mir.Val.{toZ, ofZ}
 use Rattle.integers.specs.Bounds.{*ℤ-bound, fits-width, reads-back}
-use Rattle.dual_problem.specs.Kernel.{largest-kernel}
+use Rattle.training_file.specs.Parameters.{ceilingMost}
+use Rattle.dual_problem.specs.Size.{termMost}
 use Rattle.dual_problem.specs.Problem.{sign}
 use Rattle.dual_problem.proofs.gradient.term.Statement.{statement}
 use Rattle.dual_problem.proofs.gradient.term.Tie as tie
 
-signed-requires : tie.Need-signed-requires
-signed-requires c κs = search needs
+with-sign-requires : tie.Need-with-sign-requires
+with-sign-requires c κs = search needs
 
-module _ (c : tie.After-signed) where
+module _ (c : tie.After-with-sign) where
   -- the multiplier with its sign, and the kernel value
   weight : ℤ
   weight = pos (c .before .args .multiplier) *ℤ sign (c .before .args .label)
 
-  weight-size : natAbs weight ≤ 65536
+  weight-size : natAbs weight ≤ ceilingMost
   unfolding weight
-  weight-size = subst (λ z. natAbs z ≤ 65536) (c .signed .ensures .0) (le-trans (c .signed .ensures .1) (c .before .pre .0))
+  weight-size = subst (λ z. natAbs z ≤ ceilingMost) (c .with-sign .ensures .0) (le-trans (c .with-sign .ensures .1) (c .before .pre .0))
 
-  product-size : natAbs (weight *ℤ c .before .args .kernel) ≤ 65536 * largest-kernel 16 128
+  product-size : natAbs (weight *ℤ c .before .args .kernel) ≤ termMost
   product-size = *ℤ-bound weight (c .before .args .kernel) weight-size (c .before .pre .1)
 
-  product-is : toZ w64 (ofZ w64 (c .signed .result)) *ℤ toZ w64 (ofZ w64 (c .before .args .kernel)) ≡ weight *ℤ c .before .args .kernel
+  product-is : toZ w64 (ofZ w64 (c .with-sign .result)) *ℤ toZ w64 (ofZ w64 (c .before .args .kernel)) ≡ weight *ℤ c .before .args .kernel
   unfolding weight
-  product-is = λ i. reads-back w64 (c .signed .ensures .0) (omega (arith, weight-size)) i *ℤ toZ-ofZ (c .before .fits .kernel) i
+  product-is = λ i. reads-back w64 (c .with-sign .ensures .0) (omega (arith, weight-size)) i *ℤ toZ-ofZ (c .before .fits .kernel) i
 
 mul-result : tie.Need-mul-result
 mul-result c = fits-width w64 (product-is c) (omega (arith, product-size c))
@@ -40,7 +41,7 @@ returns : tie.Need-returns
 unfolding weight
 returns c =
     let e = reads-back w64 (product-is c) (omega (arith, product-size c)) in
-    (e, subst (λ z. natAbs z ≤ 65536 * largest-kernel 16 128) (sym e) (product-size c))
+    (e, subst (λ z. natAbs z ≤ termMost) (sym e) (product-size c))
 
 pub term-spec : {M : Type 1} → statement M
-term-spec = tie.close (tie.spec signed-requires mul-result returns)
+term-spec = tie.close (tie.spec with-sign-requires mul-result returns)

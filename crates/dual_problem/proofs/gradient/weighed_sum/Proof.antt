@@ -8,9 +8,9 @@ use mir.Syntax.{w64}
 use mir.Val.{toZ, ofZ}
 use Rattle.integers.specs.Bounds.{+ℤ-bound, fits-width, reads-back, reads-as}
 use Rattle.integers.specs.Sum.{sum}
-use Rattle.dual_problem.specs.Kernel.{largest-kernel}
+use Rattle.dual_problem.specs.Size.{termMost, weighedMost}
 use Rattle.dual_problem.specs.Problem.{Problem, y}
-use Rattle.dual_problem.specs.Items.{at, kernelWith, problem-of, weighedSum}
+use Rattle.dual_problem.specs.Items.{at, kernelWith, problemOf, weighedSum}
 use Rattle.dual_problem.proofs.gradient.weighed_sum.Statement.{statement}
 use Rattle.dual_problem.proofs.gradient.weighed_sum.Tie as tie
 
@@ -23,15 +23,15 @@ row P a k j = sum j (added P a k)
 
 abbrev Inv-loop : tie.InvT-loop
 Inv-loop file order count parameters multipliers x sum₀ j₀ sum j =
-    (j ≤ count) × (sum ≡ ofZ w64 (row (problem-of file parameters) (at multipliers) (kernelWith file parameters (x .features)) j))
-    × (natAbs (row (problem-of file parameters) (at multipliers) (kernelWith file parameters (x .features)) j) ≤ j * (65536 * largest-kernel 16 128))
+    (j ≤ count) × (sum ≡ ofZ w64 (row (problemOf file parameters) (at multipliers) (kernelWith file parameters (x .features)) j))
+    × (natAbs (row (problemOf file parameters) (at multipliers) (kernelWith file parameters (x .features)) j) ≤ j * termMost)
 
 abbrev μ-loop : tie.MeasureT-loop
 μ-loop file order count parameters multipliers x sum₀ j₀ sum j = count - j
 
 -- the problem and the multipliers of the call
 abbrev P : tie.Start Inv-loop μ-loop → Problem
-P s = problem-of (s .args .file .now) (s .args .parameters)
+P s = problemOf (s .args .file .now) (s .args .parameters)
 
 abbrev a : tie.Start Inv-loop μ-loop → ℕ → ℕ
 a s = at (s .args .multipliers .now)
@@ -62,11 +62,11 @@ module _ (c : tie.After-addend Inv-loop μ-loop) where
   j : ℕ
   j = c .before .before .before .loop .j
 
-  added-size : natAbs (added (P s) (a s) (k s) j) ≤ 65536 * largest-kernel 16 128
+  added-size : natAbs (added (P s) (a s) (k s) j) ≤ termMost
   unfolding s j
-  added-size = subst (λ z. natAbs z ≤ 65536 * largest-kernel 16 128) (c .addend .ensures .0) (c .addend .ensures .1)
+  added-size = subst (λ z. natAbs z ≤ termMost) (c .addend .ensures .0) (c .addend .ensures .1)
 
-  next-size : natAbs (row (P s) (a s) (k s) (j + 1)) ≤ (j + 1) * (65536 * largest-kernel 16 128)
+  next-size : natAbs (row (P s) (a s) (k s) (j + 1)) ≤ (j + 1) * termMost
   unfolding s j sum
   next-size = rw add-one (omega (arith, +ℤ-bound (row (P s) (a s) (k s) j) (added (P s) (a s) (k s) j) (c .before .before .before .loop .inv .2) added-size))
 
@@ -96,9 +96,9 @@ returns c =
     let b = c .before .before .before .before .before in
     let e : c .before .loop .j ≡ b .args .count = omega arith in
     let n = e ∙ b .pre .table .counted in
-    let size = subst (λ m. natAbs (row (P b) (a b) (k b) m) ≤ 256 * (65536 * largest-kernel 16 128)) n (omega (arith, c .before .loop .inv .2, b .pre .table .few)) in
+    let size = subst (λ m. natAbs (row (P b) (a b) (k b) m) ≤ weighedMost) n (omega (arith, c .before .loop .inv .2, b .pre .table .few)) in
     let whole = reads-as w64 (weighedSum (P b) (a b) (k b)) (c .before .loop .inv .1 ∙ ap (λ m. ofZ w64 (row (P b) (a b) (k b) m)) n) (omega arith) in
-    (whole, subst (λ z. natAbs z ≤ 256 * (65536 * largest-kernel 16 128)) (sym whole) size)
+    (whole, subst (λ z. natAbs z ≤ weighedMost) (sym whole) size)
 
 pub weighed-sum-spec : {M : Type 1} → statement M
 weighed-sum-spec =

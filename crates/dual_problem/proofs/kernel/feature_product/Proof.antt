@@ -12,12 +12,13 @@ use mir.Syntax.{w8, w64}
 use mir.Val.{toZ, ofZ}
 use Rattle.integers.specs.Bounds.{+ℤ-bound, fits-width, reads-back, reads-as, reads-element}
 use Rattle.integers.specs.Sum.{sum}
+use Rattle.training_file.specs.Layout.{signedMost}
 use Rattle.dual_problem.specs.Kernel.{linear}
 use Rattle.dual_problem.proofs.kernel.feature_product.Statement.{statement}
 use Rattle.dual_problem.proofs.kernel.feature_product.Tie as tie
 
 abbrev Inv-loop : tie.InvT-loop
-Inv-loop used xs zs sum₀ p₀ sum p = (p ≤ used) × (sum ≡ ofZ w64 (linear p xs zs)) × (natAbs (linear p xs zs) ≤ p * (128 * 128))
+Inv-loop used xs zs sum₀ p₀ sum p = (p ≤ used) × (sum ≡ ofZ w64 (linear p xs zs)) × (natAbs (linear p xs zs) ≤ p * (signedMost * signedMost))
 
 abbrev μ-loop : tie.MeasureT-loop
 μ-loop used xs zs sum₀ p₀ sum p = used - p
@@ -46,7 +47,7 @@ module _ (c : tie.After-product Inv-loop μ-loop) where
   p = c .before .before .before .before .loop .p
 
   -- what is in `sum`, and what is added
-  so-far-size : natAbs (linear p xs zs) ≤ p * (128 * 128)
+  so-far-size : natAbs (linear p xs zs) ≤ p * (signedMost * signedMost)
   unfolding xs zs p
   so-far-size = c .before .before .before .before .loop .inv .2
 
@@ -54,11 +55,11 @@ module _ (c : tie.After-product Inv-loop μ-loop) where
   unfolding xs zs p
   place-is = c .product .ensures .0 ∙ (λ i. reads-element w8 (getD xs p (pos 0)) (c .before .before .product-arg .given) i *ℤ reads-element w8 (getD zs p (pos 0)) (c .before .product-arg2 .given) i)
 
-  place-size : natAbs (getD xs p (pos 0) *ℤ getD zs p (pos 0)) ≤ 128 * 128
+  place-size : natAbs (getD xs p (pos 0) *ℤ getD zs p (pos 0)) ≤ signedMost * signedMost
   unfolding xs zs p
-  place-size = subst (λ z. natAbs z ≤ 128 * 128) place-is (c .product .ensures .1)
+  place-size = subst (λ z. natAbs z ≤ signedMost * signedMost) place-is (c .product .ensures .1)
 
-  next-size : natAbs (linear (p + 1) xs zs) ≤ (p + 1) * (128 * 128)
+  next-size : natAbs (linear (p + 1) xs zs) ≤ (p + 1) * (signedMost * signedMost)
   unfolding xs zs p sum
   next-size = rw add-one (omega (arith, +ℤ-bound (linear p xs zs) (getD xs p (pos 0) *ℤ getD zs p (pos 0)) so-far-size place-size))
 
@@ -86,10 +87,10 @@ loop-again c = (omega arith, ap (ofZ w64) (next-is c), next-size c)
 returns : tie.Need-returns Inv-loop μ-loop
 returns c =
     let a = c .before .before .before .before .args in
-    let h : natAbs (linear (c .before .loop .p) (a .x .features) (a .z .features)) ≤ 16 * (128 * 128) = omega (arith, c .before .loop .inv .2) in
+    let h : natAbs (linear (c .before .loop .p) (a .x .features) (a .z .features)) ≤ 16 * (signedMost * signedMost) = omega (arith, c .before .loop .inv .2) in
     let e : toZ w64 (c .before .loop .sum) ≡ linear (c .before .loop .p) (a .x .features) (a .z .features) = reads-as w64 (linear (c .before .loop .p) (a .x .features) (a .z .features)) (c .before .loop .inv .1) (omega arith) in
     let q : c .before .loop .p ≡ a .used = omega arith in
-    (e ∙ ap (λ k. linear k (a .x .features) (a .z .features)) q, subst (λ z. natAbs z ≤ 16 * (128 * 128)) (sym e) h)
+    (e ∙ ap (λ k. linear k (a .x .features) (a .z .features)) q, subst (λ z. natAbs z ≤ 16 * (signedMost * signedMost)) (sym e) h)
 
 pub feature-product-spec : {M : Type 1} → statement M
 feature-product-spec =

@@ -9,7 +9,8 @@ use lib.IntN.{ℤ, pos, natAbs, _+ℤ_, _*ℤ_}
 use mir.Syntax.{w64}
 use mir.Val.{toZ, ofZ}
 use Rattle.integers.specs.Bounds.{+ℤ-bound, *ℤ-bound, fits-width, reads-back}
-use Rattle.dual_problem.specs.Kernel.{kernelValue, largest-linear, largest-kernel}
+use Rattle.dual_problem.specs.Size.{kernelMost, linearMost}
+use Rattle.dual_problem.specs.Kernel.{kernelValue}
 use Rattle.dual_problem.proofs.kernel.kernel_value.Statement.{statement}
 use Rattle.dual_problem.proofs.kernel.kernel_value.Tie as tie
 
@@ -23,14 +24,14 @@ enum-told-2 : tie.Need-enum-told-2
 enum-told-2 c = search needs
 
 -- the feature product's result r, which is z: what the machine makes of r, r + 1 and its square
-module _ {r z : ℤ} (is : r ≡ z) (size : natAbs r ≤ largest-linear 16 128) where
-  size-z : natAbs z ≤ largest-linear 16 128
-  size-z = subst (λ x. natAbs x ≤ largest-linear 16 128) is size
+module _ {r z : ℤ} (is : r ≡ z) (size : natAbs r ≤ linearMost) where
+  size-z : natAbs z ≤ linearMost
+  size-z = subst (λ x. natAbs x ≤ linearMost) is size
 
-  plus-one-size : natAbs (z +ℤ pos 1) ≤ largest-linear 16 128 + 1
+  plus-one-size : natAbs (z +ℤ pos 1) ≤ linearMost + 1
   plus-one-size = +ℤ-bound z (pos 1) size-z (le-refl 1)
 
-  square-size : natAbs ((z +ℤ pos 1) *ℤ (z +ℤ pos 1)) ≤ largest-kernel 16 128
+  square-size : natAbs ((z +ℤ pos 1) *ℤ (z +ℤ pos 1)) ≤ kernelMost
   square-size = *ℤ-bound (z +ℤ pos 1) (z +ℤ pos 1) plus-one-size plus-one-size
 
   reads : toZ w64 (ofZ w64 r) ≡ z
@@ -56,14 +57,14 @@ returns c =
     let a = c .before .before .before .args in
     let f = c .before .before .feature-product .ensures in
     let e = reads (f .0) (f .1) in
-    (e ∙ ap (λ k. kernelValue k (a .parameters .features) (a .x .features) (a .z .features)) (sym (c .enum-told .given .1)), subst (λ x. natAbs x ≤ largest-kernel 16 128) (sym e) (omega (arith, size-z (f .0) (f .1))))
+    (e ∙ ap (λ k. kernelValue k (a .parameters .used) (a .x .features) (a .z .features)) (sym (c .enum-told .given .1)), subst (λ x. natAbs x ≤ kernelMost) (sym e) (omega (arith, size-z (f .0) (f .1))))
 
 returns-2 : tie.Need-returns-2
 returns-2 c =
     let a = c .before .before .before .args in
     let f = c .before .before .feature-product .ensures in
     let e = reads-back w64 (square-is (f .0) (f .1)) (omega (arith, square-size (f .0) (f .1))) in
-    (e ∙ ap (λ k. kernelValue k (a .parameters .features) (a .x .features) (a .z .features)) (sym (c .enum-told2 .given .1)), subst (λ x. natAbs x ≤ largest-kernel 16 128) (sym e) (square-size (f .0) (f .1)))
+    (e ∙ ap (λ k. kernelValue k (a .parameters .used) (a .x .features) (a .z .features)) (sym (c .enum-told2 .given .1)), subst (λ x. natAbs x ≤ kernelMost) (sym e) (square-size (f .0) (f .1)))
 
 pub kernel-value-spec : {M : Type 1} → statement M
 kernel-value-spec =

@@ -9,6 +9,7 @@ use mir.Facts.{toZ-ofZ}
 use mir.Syntax.{w8, w64}
 use mir.Val.{SFits, toZ, ofZ, hbits}
 use Rattle.integers.specs.Bounds.{*ℤ-bound, fits-width, reads-back}
+use Rattle.training_file.specs.Layout.{signedMost}
 use Rattle.dual_problem.proofs.kernel.product.Statement.{statement}
 use Rattle.dual_problem.proofs.kernel.product.Tie as tie
 
@@ -27,7 +28,7 @@ module _ (c : tie.Start) where
   product-is : toZ w64 (ofZ w64 (toZ w8 (ofZ w8 (c .args .x)))) *ℤ toZ w64 (ofZ w64 (toZ w8 (ofZ w8 (c .args .z)))) ≡ c .args .x *ℤ c .args .z
   product-is = λ i. wide (c .fits .x) i *ℤ wide (c .fits .z) i
 
-  product-size : natAbs (c .args .x *ℤ c .args .z) ≤ 128 * 128
+  product-size : natAbs (c .args .x *ℤ c .args .z) ≤ signedMost * signedMost
   product-size = *ℤ-bound (c .args .x) (c .args .z) (size (c .fits .x)) (size (c .fits .z))
 
 cast-result : tie.Need-cast-result
@@ -42,7 +43,7 @@ mul-result c = fits-width w64 (product-is c) (omega (arith, product-size c))
 returns : tie.Need-returns
 returns c =
     let e = reads-back w64 (product-is c) (omega (arith, product-size c)) in
-    (e, subst (λ z. natAbs z ≤ 128 * 128) (sym e) (product-size c))
+    (e, subst (λ z. natAbs z ≤ signedMost * signedMost) (sym e) (product-size c))
 
 pub product-spec : {M : Type 1} → statement M
 product-spec = tie.close (tie.spec cast-result cast-result-2 mul-result returns)

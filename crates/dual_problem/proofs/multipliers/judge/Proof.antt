@@ -11,14 +11,14 @@ use mir.Syntax.{w64}
 use mir.Val.{SFits, toZ, ofZ}
 use Rattle.integers.specs.Places.{all}
 use Rattle.dual_problem.specs.Problem.{Problem}
-use Rattle.dual_problem.specs.Items.{at, problem-of}
+use Rattle.dual_problem.specs.Items.{at, problemOf}
 use Rattle.dual_problem.specs.Multipliers.{balance}
 use Rattle.dual_problem.specs.Multipliers.Laws.{judgement-is, zero-is-zero, nonzero-is-zero}
 use Rattle.dual_problem.proofs.multipliers.judge.Statement.{statement}
 use Rattle.dual_problem.proofs.multipliers.judge.Tie as tie
 
 abbrev P : tie.Start → Problem
-P s = problem-of (s .args .file .now) (s .args .parameters)
+P s = problemOf (s .args .file .now) (s .args .parameters)
 
 -- the problem's count is the one handed in
 counted : (s : tie.Start) → P s .count ≡ s .args .count

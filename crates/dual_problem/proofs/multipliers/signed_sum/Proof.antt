@@ -11,8 +11,8 @@ use mir.Syntax.{w64}
 use mir.Val.{toZ, ofZ}
 use Rattle.integers.specs.Bounds.{+ℤ-bound, fits-width, reads-back, reads-as}
 use Rattle.integers.specs.Sum.{sum}
-use Rattle.training_file.specs.Reading.{reading}
-use Rattle.training_file.specs.Calls.{itemIn, itemsIn}
+use Rattle.reading.specs.Reading.{reading}
+use Rattle.reading.specs.Calls.{itemIn, itemsIn}
 use Rattle.dual_problem.specs.Problem.{sign}
 use Rattle.dual_problem.specs.Items.{at}
 use Rattle.dual_problem.proofs.multipliers.signed_sum.Statement.{statement}
@@ -33,19 +33,19 @@ loop-holds : tie.Need-loop-holds Inv-loop μ-loop
 unfolding sum
 loop-holds c = (omega arith, refl, omega arith)
 
-fetch-requires : tie.Need-fetch-requires Inv-loop μ-loop
-fetch-requires c κs = let p = c .before .before .before .before .before .pre .0 in p .tabled _ (c .loop-test .taken)
+fetch-label-requires : tie.Need-fetch-label-requires Inv-loop μ-loop
+fetch-label-requires c κs = let p = c .before .before .before .before .before .pre .0 in p .tabled _ (c .loop-test .taken)
 
-mul-signed : tie.Need-mul-signed Inv-loop μ-loop
-mul-signed c = omega (arith, c .before .before .before .before .before .before .pre .0 .few)
+mul-with-sign : tie.Need-mul-with-sign Inv-loop μ-loop
+mul-with-sign c = omega (arith, c .before .before .before .before .before .before .pre .0 .few)
 
-shared-slice-read-signed : tie.Need-shared-slice-read-signed Inv-loop μ-loop
-shared-slice-read-signed c = omega (arith, c .before .before .before .before .before .before .before .pre .1)
+shared-slice-read-with-sign : tie.Need-shared-slice-read-with-sign Inv-loop μ-loop
+shared-slice-read-with-sign c = omega (arith, c .before .before .before .before .before .before .before .pre .1)
 
-signed-requires : tie.Need-signed-requires Inv-loop μ-loop
-signed-requires c κs = search needs
+with-sign-requires : tie.Need-with-sign-requires Inv-loop μ-loop
+with-sign-requires c κs = search needs
 
-module _ (c : tie.After-signed Inv-loop μ-loop) where
+module _ (c : tie.After-with-sign Inv-loop μ-loop) where
   s : tie.Start Inv-loop μ-loop
   s = c .before .before .before .before .before .before .before .before
 
@@ -59,22 +59,22 @@ module _ (c : tie.After-signed Inv-loop μ-loop) where
   so-far : ℤ
   so-far = sum i (added (s .args .file .now) (s .args .multipliers .now))
 
-  new-is : c .signed .result ≡ new
+  new-is : c .with-sign .result ≡ new
   unfolding s i new
   new-is =
-      c .signed .ensures .0
-      ∙ ap (λ item. pos (at (s .args .multipliers .now) i) *ℤ sign (item .label))
-      (c .before .before .fetch .ensures)
+      c .with-sign .ensures .0
+      ∙ ap (λ label. pos (at (s .args .multipliers .now) i) *ℤ sign label)
+      (c .before .before .fetch-label .ensures)
 
   new-size : natAbs new ≤ 2 ^ 32
   unfolding s i new
-  new-size = subst (λ z. natAbs z ≤ 2 ^ 32) new-is (omega (arith, c .signed .ensures .1, c .before .shared-slice-known4 .given i))
+  new-size = subst (λ z. natAbs z ≤ 2 ^ 32) new-is (omega (arith, c .with-sign .ensures .1, c .before .shared-slice-known4 .given i))
 
   next-size : natAbs (so-far +ℤ new) ≤ (i + 1) * 2 ^ 32
   unfolding s i so-far
   next-size = omega (arith, +ℤ-bound so-far new (c .before .before .before .before .loop .inv .2) new-size)
 
-  next-is : toZ w64 (c .before .before .before .before .loop .sum) +ℤ toZ w64 (ofZ w64 (c .signed .result)) ≡ so-far +ℤ new
+  next-is : toZ w64 (c .before .before .before .before .loop .sum) +ℤ toZ w64 (ofZ w64 (c .with-sign .result)) ≡ so-far +ℤ new
   unfolding s i so-far
   next-is = λ k. reads-as w64 so-far (c .before .before .before .before .loop .inv .1) (omega (arith, c .before .before .before .before .loop .inv .2, s .pre .0 .few)) k +ℤ reads-back w64 new-is (omega (arith, new-size)) k
 
@@ -103,4 +103,4 @@ returns c p =
 pub signed-sum-spec : {M : Type 1} → statement M
 signed-sum-spec =
     tie.close
-    (tie.spec Inv-loop μ-loop loop-holds fetch-requires mul-signed shared-slice-read-signed signed-requires add-sum add-i loop-less loop-again returns)
+    (tie.spec Inv-loop μ-loop loop-holds fetch-label-requires mul-with-sign shared-slice-read-with-sign with-sign-requires add-sum add-i loop-less loop-again returns)

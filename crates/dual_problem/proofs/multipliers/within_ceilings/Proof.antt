@@ -12,13 +12,13 @@ use lib.Dec.{leb}
 use Rattle.integers.specs.Places.{all}
 use Rattle.integers.specs.Places.Laws.{all-suc, all-fails}
 use Rattle.training_file.specs.declared.parameters.Parameters.{Parameters}
-use Rattle.dual_problem.specs.Problem.{ceiling-of}
-use Rattle.dual_problem.specs.Items.{at, problem-of}
+use Rattle.dual_problem.specs.Problem.{ceilingOf}
+use Rattle.dual_problem.specs.Items.{at, problemOf}
 use Rattle.dual_problem.proofs.multipliers.within_ceilings.Statement.{statement}
 use Rattle.dual_problem.proofs.multipliers.within_ceilings.Tie as tie
 
 abbrev within : List ℕ → Parameters → List ℕ → ℕ → Bool
-within file p a i = leb (at a i) (problem-of file p .ceiling i)
+within file p a i = leb (at a i) (problemOf file p .ceiling i)
 
 abbrev Inv-loop : tie.InvT-loop
 Inv-loop file order count parameters multipliers i₀ i = (i ≤ count) × (all i (within file parameters multipliers) ≡ true)
@@ -30,8 +30,8 @@ loop-holds : tie.Need-loop-holds Inv-loop μ-loop
 unfolding all
 loop-holds c = (omega arith, refl)
 
-fetch-requires : tie.Need-fetch-requires Inv-loop μ-loop
-fetch-requires c κs = let p = c .before .before .before .before .before .pre .0 in p .tabled _ (c .loop-test .taken)
+fetch-label-requires : tie.Need-fetch-label-requires Inv-loop μ-loop
+fetch-label-requires c κs = let p = c .before .before .before .before .before .pre .0 in p .tabled _ (c .loop-test .taken)
 
 ceiling-requires : tie.Need-ceiling-requires Inv-loop μ-loop
 ceiling-requires c κs = search needs
@@ -50,12 +50,12 @@ module _ (c : tie.After-shared-slice-known4 Inv-loop μ-loop) where
   i : ℕ
   i = c .before .before .before .before .loop .i
 
-  ceiling-is : c .before .ceiling .result ≡ problem-of (s .args .file .now) (s .args .parameters) .ceiling i
+  ceiling-is : c .before .ceiling .result ≡ problemOf (s .args .file .now) (s .args .parameters) .ceiling i
   unfolding s i
   ceiling-is =
       c .before .ceiling .ensures
-      ∙ ap (λ item. ceiling-of (s .args .parameters) (item .label))
-      (c .before .before .fetch .ensures)
+      ∙ ap (ceilingOf (s .args .parameters))
+      (c .before .before .fetch-label .ensures)
 
 returns : tie.Need-returns Inv-loop μ-loop
 unfolding s i
@@ -88,4 +88,4 @@ returns-2 c =
 pub within-ceilings-spec : {M : Type 1} → statement M
 within-ceilings-spec =
     tie.close
-    (tie.spec Inv-loop μ-loop loop-holds fetch-requires ceiling-requires mul-if1 shared-slice-read-if1 returns add-i loop-less loop-again returns-2)
+    (tie.spec Inv-loop μ-loop loop-holds fetch-label-requires ceiling-requires mul-if1 shared-slice-read-if1 returns add-i loop-less loop-again returns-2)

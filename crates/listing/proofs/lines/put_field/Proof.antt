@@ -2,9 +2,9 @@
 use mathlib.Core.Path.{sym, ap}
 use mir.Facts.{toZ-ofZ}
 use mir.Syntax.{w64}
-use Rattle.listing.specs.Decimal.{signed}
-use Rattle.listing.specs.Put.Laws.{put-as, put-then, room-as, room-then}
 use borrow.Author.Needs.{needs}
+use Rattle.listing.specs.Decimal.{signedDecimal}
+use Rattle.listing.specs.Put.Laws.{put-as, put-then, room-as, room-then}
 use Rattle.listing.proofs.lines.put_field.Statement.{statement}
 use Rattle.listing.proofs.lines.put_field.Tie as tie
 
@@ -14,7 +14,7 @@ put-byte-requires c κs = search needs
 put-signed-requires : tie.Need-put-signed-requires
 put-signed-requires c κs =
     let s = c .before .before .before .before .before .before in
-    room-as (ap signed (sym (toZ-ofZ {w = w64} {z = s .args .number} (s .fits .number)))) (room-then (c .before .before .before .put-byte .ensures) (s .pre))
+    room-as (ap signedDecimal (sym (toZ-ofZ {w = w64} {z = s .args .number} (s .fits .number)))) (room-then (c .before .before .before .put-byte .ensures) (s .pre))
 
 same-length : tie.Need-same-length
 same-length c = search needs
@@ -22,7 +22,7 @@ same-length c = search needs
 returns : tie.Need-returns
 returns c =
     let s = c .before .before .before .before .before .before .before .before .before in
-    put-then (c .before .before .before .before .before .before .put-byte .ensures) (put-as (ap signed (toZ-ofZ {w = w64} {z = s .args .number} (s .fits .number))) (c .before .before .put-signed .ensures))
+    put-then (c .before .before .before .before .before .before .put-byte .ensures) (put-as (ap signedDecimal (toZ-ofZ {w = w64} {z = s .args .number} (s .fits .number))) (c .before .before .put-signed .ensures))
 
 pub put-field-spec : {M : Type 1} → statement M
 put-field-spec = tie.close (tie.spec put-byte-requires put-signed-requires same-length returns)

@@ -5,9 +5,9 @@ use Prim.Native.Nat.{ℕ, suc, _+_, _-_, _≤_, _<_}
 use native.Mathlib.Numerals.{add-one}
 use native.Mathlib.Omega.{arith}
 use lib.ListN.{getD}
-use Rattle.training_file.specs.declared.item.Item.{Item}
-use Rattle.training_file.specs.Reading.{reading}
-use Rattle.training_file.specs.Calls.{itemIn, itemsIn}
+use Rattle.training_file.specs.declared.item.Label.{Label}
+use Rattle.reading.specs.Reading.{reading}
+use Rattle.reading.specs.Calls.{itemIn, itemsIn}
 use Rattle.dual_problem.specs.Items.{Listed, at as atPlace}
 use Rattle.listing.specs.Listing.{itemLine, joined, lineIn}
 use Rattle.listing.specs.Listing.Laws.{joined-rises}
@@ -24,8 +24,8 @@ abbrev μ-loop : tie.MeasureT-loop
 
 -- the line of a place, from what is read there; and there is room for it after the lines before
 module _ {file order : List ℕ} (multipliers : List ℕ) {count i : ℕ} (listed : Listed file order count) (below : i < count) where
-  line-is : {item : Item} → item ≡ itemIn (itemsIn (reading file)) i → itemLine (getD order i 0) (item .label) (getD multipliers i 0) ≡ lineIn file multipliers i
-  line-is e = λ k. itemLine (listed .tabled i below .same k) (e k .label) (atPlace multipliers i)
+  line-is : {label : Label} → label ≡ itemIn (itemsIn (reading file)) i .label → itemLine (getD order i 0) label (getD multipliers i 0) ≡ lineIn file multipliers i
+  line-is e = λ k. itemLine (listed .tabled i below .same k) (e k) (atPlace multipliers i)
 
   line-room : {at end : ℕ} {out₀ out : List ℕ} → Room (joined count (lineIn file multipliers)) at out₀ → Put (joined i (lineIn file multipliers)) at out₀ out end → Room (lineIn file multipliers i) end out
   unfolding joined
@@ -35,8 +35,8 @@ loop-holds : tie.Need-loop-holds Inv-loop μ-loop
 unfolding joined
 loop-holds c = (omega arith, put-none _ _)
 
-fetch-requires : tie.Need-fetch-requires Inv-loop μ-loop
-fetch-requires c κs = c .before .before .before .before .before .before .pre .0 .tabled _ (c .loop-test .taken)
+fetch-label-requires : tie.Need-fetch-label-requires Inv-loop μ-loop
+fetch-label-requires c κs = c .before .before .before .before .before .before .pre .0 .tabled _ (c .loop-test .taken)
 
 mul-put-item : tie.Need-mul-put-item Inv-loop μ-loop
 mul-put-item c = omega (arith, c .before .before .before .before .before .before .before .before .pre .0 .few)
@@ -53,7 +53,7 @@ shared-slice-read-put-item-2 c = omega (arith, c .before .before .before .before
 put-item-requires : tie.Need-put-item-requires Inv-loop μ-loop
 put-item-requires c κs =
     let s = c .before .before .before .before .before .before .before .before .before .before in
-    room-as (sym (line-is (s .args .multipliers .now) (s .pre .0) (c .before .before .before .before .loop-test .taken) (c .before .before .before .fetch .ensures))) (line-room (s .args .multipliers .now) (s .pre .0) (c .before .before .before .before .loop-test .taken) (s .pre .2) (c .before .before .before .before .before .loop .inv .1))
+    room-as (sym (line-is (s .args .multipliers .now) (s .pre .0) (c .before .before .before .before .loop-test .taken) (c .before .before .before .fetch-label .ensures))) (line-room (s .args .multipliers .now) (s .pre .0) (c .before .before .before .before .loop-test .taken) (s .pre .2) (c .before .before .before .before .before .loop .inv .1))
 
 add-i : tie.Need-add-i Inv-loop μ-loop
 add-i c = omega (arith, c .before .before .before .before .before .before .before .before .before .before .before .before .before .pre .0 .few)
@@ -66,7 +66,7 @@ unfolding joined
 loop-again c =
     let s = c .before .before .before .before .before .before .before .before .before .before .before .before .before in
     let l : c .before .before .before .before .before .before .before .before .loop .i + 1 ≤ s .args .count = omega arith in
-    (l, rw add-one (put-then (c .before .before .before .before .before .before .before .before .loop .inv .1) (put-as (line-is (s .args .multipliers .now) (s .pre .0) (c .before .before .before .before .before .before .before .loop-test .taken) (c .before .before .before .before .before .before .fetch .ensures)) (c .before .before .put-item .ensures))))
+    (l, rw add-one (put-then (c .before .before .before .before .before .before .before .before .loop .inv .1) (put-as (line-is (s .args .multipliers .now) (s .pre .0) (c .before .before .before .before .before .before .before .loop-test .taken) (c .before .before .before .before .before .before .fetch-label .ensures)) (c .before .before .put-item .ensures))))
 
 same-length : tie.Need-same-length Inv-loop μ-loop
 same-length c = put-length (c .before .loop .inv .1)
@@ -84,7 +84,7 @@ put-items-spec =
     Inv-loop
     μ-loop
     loop-holds
-    fetch-requires
+    fetch-label-requires
     mul-put-item
     shared-slice-read-put-item
     mul-put-item-2

@@ -1,13 +1,13 @@
 -- `listing::list::list` meets its contract. Assumes nothing.
 use mathlib.Core.Path.{_≡_, sym, _∙_}
 use native.Mathlib.Omega.{arith}
-use Rattle.training_file.specs.Reading.{reading}
-use Rattle.training_file.specs.Calls.{itemsIn, orderIn}
+use borrow.Author.Needs.{needs}
+use Rattle.reading.specs.Reading.{reading}
+use Rattle.reading.specs.Calls.{itemsIn, orderIn}
 use Rattle.dual_problem.specs.Items.{at}
 use Rattle.listing.specs.Listing.{listing, listingIn, listingOf}
 use Rattle.listing.specs.Listing.Laws.{items-few, listing-fits, listing-trained}
 use Rattle.listing.specs.Put.Laws.{put-all, put-as, room-as}
-use borrow.Author.Needs.{needs}
 use Rattle.listing.proofs.list.list.Statement.{statement}
 use Rattle.listing.proofs.list.list.Tie as tie
 
@@ -27,7 +27,7 @@ slice-aggregate-put-training c = search needs
 text-is : (c : tie.After-train) → listingIn (c .train .result) (c .before .before .before .before .args .file .now) (c .train .last .1 .0) ≡ listingOf (reading (c .before .before .before .before .args .file .now))
 text-is c =
     let r = reading (c .before .before .before .before .args .file .now) in
-    (λ k. listing (c .train .ensures .0 k) (orderIn r) (itemsIn r) (at (c .train .ensures .1 .0 .0 k))) ∙ listing-trained r _ _ (items-few _) (items-few _)
+    (λ k. let left = c .train .ensures .0 k in listing (left .answer) (orderIn r) (itemsIn r) (at (left .multipliers))) ∙ listing-trained r _ _ (items-few _) (items-few _)
 
 put-training-requires : tie.Need-put-training-requires
 put-training-requires c κs =

@@ -2,28 +2,28 @@
 use mathlib.Core.Path.{_≡_, refl, sym, _∙_, ap, subst₂}
 use native.Mathlib.Omega.{arith}
 use lib.ListN.{length}
-use Rattle.training_file.specs.Reading.{reading}
-use Rattle.training_file.specs.Calls.{itemsIn}
+use borrow.Author.Needs.{needs}
+use Rattle.reading.specs.Reading.{reading}
+use Rattle.reading.specs.Calls.{itemsIn}
 use Rattle.dual_problem.specs.Items.{Listed}
 use Rattle.listing.specs.Listing.{itemCount, joined, lineIn, listing}
 use Rattle.listing.specs.Listing.Laws.{count-items, reading-listed}
 use Rattle.listing.specs.Put.Laws.{put-as, put-then, room-as, room-first, room-then}
-use borrow.Author.Needs.{needs}
 use Rattle.listing.proofs.list.put_trained.Statement.{statement}
 use Rattle.listing.proofs.list.put_trained.Tie as tie
 
-slice-aggregate-order : tie.Need-slice-aggregate-order
-slice-aggregate-order c = search needs
+slice-aggregate-read : tie.Need-slice-aggregate-read
+slice-aggregate-read c = search needs
 
-order-requires : tie.Need-order-requires
-order-requires c κs = search needs
+read-requires : tie.Need-read-requires
+read-requires c κs = search needs
 
 item-count-requires : tie.Need-item-count-requires
 item-count-requires c κs = search needs
 
 -- the items that the table was filled for are all of the file's
 count-is : (c : tie.After-item-count) → c .item-count .result ≡ length (itemsIn (reading (c .before .before .before .before .before .before .before .args .file .now)))
-count-is c = c .item-count .ensures ∙ ap itemCount (c .before .before .order2 .ensures .0) ∙ count-items _
+count-is c = c .item-count .ensures ∙ ap itemCount (c .before .before .read .ensures .0) ∙ count-items _
 
 put-result-requires : tie.Need-put-result-requires
 unfolding listing
@@ -37,7 +37,7 @@ unfolding listing
 put-items-requires c κs =
     let s = c .before .before .before .before .before .before .before .before .before .before .before .before .before in
     let n = count-is (c .before .before .before .before .before .before) in (
-      subst₂ (Listed (s .args .file .now)) (sym (c .before .before .before .before .before .before .before .before .order2 .ensures .1)) (sym n) (reading-listed (s .args .file .now) _ refl),
+      subst₂ (Listed (s .args .file .now)) (sym (c .before .before .before .before .before .before .before .before .read .ensures .1)) (sym n) (reading-listed (s .args .file .now) _ refl),
       omega (arith, n, s .pre .0),
       room-as (ap (λ k. joined k (lineIn (s .args .file .now) (s .args .multipliers .now))) (sym n)) (room-then (c .before .before .before .before .put-result .ensures) (s .pre .1)),
     )
@@ -55,8 +55,8 @@ pub put-trained-spec : {M : Type 1} → statement M
 put-trained-spec =
     tie.close
     (tie.spec
-    slice-aggregate-order
-    order-requires
+    slice-aggregate-read
+    read-requires
     item-count-requires
     put-result-requires
     slice-aggregate-put-items

@@ -12,7 +12,7 @@ use mir.Facts.{toZ-ofZ}
 use mir.Syntax.{w64}
 use mir.Val.{Fits, SFits, toZ, ofZ}
 use Rattle.integers.specs.Bounds.{fits-width, reads-back}
-use Rattle.listing.specs.Decimal.{decimal, signed}
+use Rattle.listing.specs.Decimal.{decimal, signedDecimal}
 use Rattle.listing.specs.Decimal.Laws.{below-zero, signed-minus, signed-plus}
 use Rattle.listing.specs.Put.Laws.{put-as, put-then, room-as, room-first, room-then}
 use Rattle.listing.proofs.number.put_signed.Statement.{statement}
@@ -32,7 +32,7 @@ module _ (z : ℤ) (fits : SFits w64 z) where
         let e = signed-plus z plus-is .0 in
         subst (λ y. T (nonNeg y) × Fits w64 (natAbs y)) (sym (reads ∙ e)) (tt, record { fits = omega (arith, subst (SFits w64) e fits .sfits) })
 
-    plus-text : signed z ≡ decimal (natAbs (toZ w64 (ofZ w64 z)))
+    plus-text : signedDecimal z ≡ decimal (natAbs (toZ w64 (ofZ w64 z)))
     plus-text = signed-plus z plus-is .1 ∙ ap (λ y. decimal (natAbs y)) (sym reads)
 
   -- below 0
@@ -46,7 +46,7 @@ module _ (z : ℤ) (fits : SFits w64 z) where
     less-one-reads : toZ w64 (ofZ w64 (negsuc 0 -ℤ toZ w64 (ofZ w64 z))) ≡ pos (mag z)
     less-one-reads = reads-back w64 less-one (fits .sfits)
 
-    minus-text : signed z ≡ (45 ∷ []) ++ decimal (natAbs (toZ w64 (ofZ w64 (negsuc 0 -ℤ toZ w64 (ofZ w64 z)))) + 1)
+    minus-text : signedDecimal z ≡ (45 ∷ []) ++ decimal (natAbs (toZ w64 (ofZ w64 (negsuc 0 -ℤ toZ w64 (ofZ w64 z)))) + 1)
     minus-text = signed-minus z minus-is ∙ ap (λ y. (45 ∷ []) ++ decimal (natAbs y + 1)) (sym less-one-reads)
 
 cast-put-number : tie.Need-cast-put-number

@@ -1,12 +1,12 @@
 -- `lookahead::classify::classify` meets its contract. Assumes nothing.
 use mathlib.Core.Path.{refl, sym, _∙_, ap, subst}
-use Rattle.training_file.specs.Reading.{reading}
-use Rattle.training_file.specs.Calls.{outcomeRefusal}
+use borrow.Author.Needs.{needs}
+use Rattle.reading.specs.Reading.{reading}
+use Rattle.reading.specs.Calls.{fileRefusal}
 use Rattle.dual_problem.specs.Items.{Listed}
-use Rattle.dual_problem.specs.Items.Read.{outcome-read, read-listed, read-ranges}
+use Rattle.dual_problem.specs.Items.Laws.Read.{answer-read, read-listed, read-ranges}
 use Rattle.lookahead.specs.declared.classify.Classified.the-variants.{Refused}
 use Rattle.lookahead.specs.Classify.Laws.{classify-refused, classify-read}
-use borrow.Author.Needs.{needs}
 use Rattle.lookahead.proofs.classify.classify.Statement.{statement}
 use Rattle.lookahead.proofs.classify.classify.Tie as tie
 
@@ -16,8 +16,8 @@ slice-aggregate-order c = search needs
 order-requires : tie.Need-order-requires
 order-requires c κs = search needs
 
-enum-known-outcome : tie.Need-enum-known-outcome
-enum-known-outcome c = search needs
+enum-known-answer : tie.Need-enum-known-answer
+enum-known-answer c = search needs
 
 enum-told : tie.Need-enum-told
 enum-told c = search needs
@@ -29,7 +29,7 @@ returns : tie.Need-returns
 returns c =
     let s = c .before .before .before .before .before .before .before .before in
     let why = c .before .enum-told .given .1 in
-    ap Refused (c .refusal .ensures ∙ ap outcomeRefusal why)
+    ap Refused (c .refusal .ensures ∙ ap fileRefusal why)
     ∙ sym (classify-refused (reading (s .args .file .now)) (s .args .multipliers .now) (s .args .word .now) _ (sym (c .before .before .before .before .order2 .ensures .0) ∙ why))
 
 slice-aggregate-classify-read : tie.Need-slice-aggregate-classify-read
@@ -39,13 +39,13 @@ classify-read-requires : tie.Need-classify-read-requires
 classify-read-requires c κs =
     let f = c .before .before .before .before .before .before .before .before .before .args .file .now in
     let call = c .before .before .before .before .before .order2 .ensures in
-    let r = outcome-read f _ _ (sym (call .0) ∙ c .before .before .outcome .given .1) in
-    (subst (λ table. Listed f table (c .before .before .outcome .given .0 .1 .0)) (sym (call .1)) (read-listed r _ refl), read-ranges r)
+    let r = answer-read f _ _ (sym (call .0) ∙ c .before .before .answer .given .1) in
+    (subst (λ table. Listed f table (c .before .before .answer .given .0 .1 .0)) (sym (call .1)) (read-listed r _ refl), read-ranges r)
 
 returns-2 : tie.Need-returns-2
 returns-2 c =
     let s = c .before .before .before .before .before .before .before .before .before .before in
-    let r = outcome-read (s .args .file .now) _ _ (sym (c .before .before .before .before .before .before .order2 .ensures .0) ∙ c .before .before .before .outcome .given .1) in
+    let r = answer-read (s .args .file .now) _ _ (sym (c .before .before .before .before .before .before .order2 .ensures .0) ∙ c .before .before .before .answer .given .1) in
     c .classify-read .ensures ∙ classify-read (s .args .file .now) (s .args .multipliers .now) (s .args .word .now) r
 
 pub classify-spec : {M : Type 1} → statement M
@@ -54,7 +54,7 @@ classify-spec =
     (tie.spec
     slice-aggregate-order
     order-requires
-    enum-known-outcome
+    enum-known-answer
     enum-told
     refusal-requires
     returns

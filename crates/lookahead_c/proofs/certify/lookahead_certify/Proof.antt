@@ -1,9 +1,9 @@
 -- `lookahead_c::certify::lookahead_certify` meets its contract: each arm has the case of the library's answer. Assumes nothing.
 use mathlib.Core.Path.{_≡_, sym, _∙_, ap}
-use Rattle.lookahead_c.specs.Certifying.{certifyNumber, certifyFound}
 use mir.Syntax.{w64}
 use mir.Val.{toZ, ofZ}
 use borrow.Author.Needs.{needs}
+use Rattle.lookahead_c.specs.Certifying.{certifySeen}
 use Rattle.lookahead_c.proofs.certify.lookahead_certify.Statement.{statement}
 use Rattle.lookahead_c.proofs.certify.lookahead_certify.Tie as tie
 
@@ -20,18 +20,17 @@ returns : tie.Need-returns
 returns c =
     let lent = c .before .before .before .before .before .before .args in
     let refused = sym (c .before .certified .given .1) ∙ c .before .before .before .certify .ensures .0 in
-    (ap certifyNumber refused, ap (λ x. certifyFound x (record { lower = lent .lower .now; upper = lent .upper .now })) refused)
+    ap (λ x. certifySeen x (record { lower = lent .lower .now; upper = lent .upper .now })) refused
 
 returns-2 : tie.Need-returns-2
 returns-2 c =
     let lent = c .before .before .before .before .before .before .before .before .args in
-    let accepted = sym (c .before .before .before .certified2 .given .1) ∙ c .before .before .before .before .before .certify .ensures .0 in
+    let found = sym (c .before .before .before .certified2 .given .1) ∙ c .before .before .before .before .before .certify .ensures .0 in
     let thresholds = c .before .before .before .certified2 .given .0 .0 in
     let lower : toZ w64 (ofZ w64 (thresholds .lower)) ≡ thresholds .lower = search needs in
-    let upper : toZ w64 (ofZ w64 (thresholds .upper)) ≡ thresholds .upper = search needs in (
-      ap certifyNumber accepted,
-      (λ k. record { lower = lower k; upper = upper k }) ∙ ap (λ x. certifyFound x (record { lower = lent .lower .now; upper = lent .upper .now })) accepted,
-    )
+    let upper : toZ w64 (ofZ w64 (thresholds .upper)) ≡ thresholds .upper = search needs in
+    (λ k. record { number = 0; found = record { lower = lower k; upper = upper k } })
+    ∙ ap (λ x. certifySeen x (record { lower = lent .lower .now; upper = lent .upper .now })) found
 
 pub lookahead-certify-spec : {M : Type 1} → statement M
 lookahead-certify-spec =

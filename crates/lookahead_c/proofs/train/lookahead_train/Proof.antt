@@ -1,15 +1,11 @@
 -- `lookahead_c::train::lookahead_train` meets its contract: each arm has the case of the library's answer. Assumes nothing.
 use mathlib.Core.Path.{_≡_, sym, _∙_, ap}
-use Prim.Native.Nat.{ℕ}
-use lib.IntN.{ℤ}
 use mir.Syntax.{w64}
 use mir.Val.{toZ, ofZ}
-use Rattle.smo.specs.declared.run.Trained.{Trained}
-use Rattle.smo.specs.declared.train.Training.{Training}
-use Rattle.smo.specs.declared.train.Training.the-variants.{Ended}
-use Rattle.lookahead_c.specs.Numbering.{endingNumber}
-use Rattle.lookahead_c.specs.Training.{TrainNumbers, trainNumber, trainFound}
 use borrow.Author.Needs.{needs}
+use Rattle.smo.specs.declared.train.Training.{Training}
+use Rattle.smo.specs.Train.{trainFile}
+use Rattle.lookahead_c.specs.Training.{TrainNumbers, trainSeen}
 use Rattle.lookahead_c.proofs.train.lookahead_train.Statement.{statement}
 use Rattle.lookahead_c.proofs.train.lookahead_train.Tie as tie
 
@@ -31,13 +27,19 @@ same-length c = search needs
 same-length-2 : tie.Need-same-length-2
 same-length-2 c = search needs
 
+-- what the caller sees, by what the library's call left
+seen : (c : tie.After-train) (before : TrainNumbers) {answer : Training} → c .train .result ≡ answer
+    → trainSeen (record { answer = answer; multipliers = c .train .last .1 .0; gradient = c .train .last .1 .1 .0 }) before
+    ≡ trainSeen (trainFile (c .before .before .before .before .before .args .file .now) (c .before .before .before .before .before .args .multipliers .now) (c .before .before .before .before .before .args .gradient .now)) before
+seen c before told =
+    let left = c .train .ensures .0 in
+    λ k. trainSeen (record { answer = (sym told ∙ (λ i. left i .answer)) k; multipliers = left k .multipliers; gradient = left k .gradient }) before
+
 returns : tie.Need-returns
 returns c =
     let lent = c .before .before .before .before .before .before .before .before .before .before .before .args in
-    let before : TrainNumbers = record { ending = lent .ending .now; steps = lent .steps .now; lower = lent .lower .now; upper = lent .upper .now } in
-    let call = c .before .before .before .before .before .before .train .ensures in
-    let refused = sym (c .before .training .given .1) ∙ call .0 in
-    (ap trainNumber refused, (call .1 .0, ap (λ x. trainFound x before) refused))
+    seen (c .before .before .before .before .before .before) (record { ending = lent .ending .now; steps = lent .steps .now; lower = lent .lower .now; upper = lent .upper .now })
+    (c .before .training .given .1)
 
 same-length-3 : tie.Need-same-length-3
 same-length-3 c = search needs
@@ -45,23 +47,21 @@ same-length-3 c = search needs
 same-length-4 : tie.Need-same-length-4
 same-length-4 c = search needs
 
--- the four numbers written, where each is the result's
-written : (result : Trained) (before : TrainNumbers) {answer : Training} {ending : ℕ} {lower upper : ℤ} → ending ≡ endingNumber (result .ending) → lower ≡ result .lower → upper ≡ result .upper → Ended result ≡ answer
-    → record { ending = ending; steps = result .steps; lower = lower; upper = upper } ≡ trainFound answer before
-written result before e l u ended = (λ k. record { ending = e k; steps = result .steps; lower = l k; upper = u k }) ∙ ap (λ x. trainFound x before) ended
-
 returns-2 : tie.Need-returns-2
 returns-2 c =
     let lent = c .before .before .before .before .before .before .before .before .before .before .before .before .before .before .args in
-    let before : TrainNumbers = record { ending = lent .ending .now; steps = lent .steps .now; lower = lent .lower .now; upper = lent .upper .now } in
-    let call = c .before .before .before .before .before .before .before .before .before .train .ensures in
+    let trained = c .before .before .before .before .before .before .before .before .before in
     let result = c .before .before .before .before .training2 .given .0 .0 in
-    let ended = sym (c .before .before .before .before .training2 .given .1) ∙ call .0 in
     let lower : toZ w64 (ofZ w64 (result .lower)) ≡ result .lower = search needs in
-    let upper : toZ w64 (ofZ w64 (result .upper)) ≡ result .upper = search needs in (
-      ap trainNumber ended,
-      (call .1 .0, written result before (c .ending-number .ensures) lower upper ended),
-    )
+    let upper : toZ w64 (ofZ w64 (result .upper)) ≡ result .upper = search needs in
+    (λ k. record {
+      number = 0;
+      multipliers = trained .train .last .1 .0;
+      gradient = trained .train .last .1 .1 .0;
+      found = record { ending = c .ending-number .ensures k; steps = result .steps; lower = lower k; upper = upper k };
+    })
+    ∙ seen trained (record { ending = lent .ending .now; steps = lent .steps .now; lower = lent .lower .now; upper = lent .upper .now })
+    (c .before .before .before .before .training2 .given .1)
 
 pub lookahead-train-spec : {M : Type 1} → statement M
 lookahead-train-spec =

@@ -11,14 +11,15 @@ use mir.Facts.{toZ-pos}
 use mir.Syntax.{w64}
 use mir.Val.{toZ, ofZ}
 use Rattle.integers.specs.Bounds.{+ℤ-bound, fits-width, reads-back}
-use Rattle.dual_problem.specs.Problem.{Problem, gradient, b-up, b-low}
-use Rattle.dual_problem.specs.Items.{at, largest-gradient, problem-of}
+use Rattle.dual_problem.specs.Size.{gradientMost}
+use Rattle.dual_problem.specs.Problem.{Problem, gradient, bUp, bLow}
+use Rattle.dual_problem.specs.Items.{at, problemOf}
 use Rattle.dual_problem.specs.Items.Laws.{b-low-size, b-up-size}
 use Rattle.dual_problem.specs.Thresholds.{bestValue}
 use Rattle.dual_problem.specs.Thresholds.Laws.{low-value, up-value}
-use Rattle.smo.specs.declared.pair.Pair.{Pair}
-use Rattle.smo.specs.Step.{working-pair}
-use Rattle.smo.specs.Pair.{pairOf}
+use Rattle.smo_step.specs.declared.pair.Pair.{Pair}
+use Rattle.smo_step.specs.Step.{workingPair}
+use Rattle.smo_step.specs.Pair.{pairOf}
 use Rattle.smo.specs.Answer.{decided}
 use Rattle.smo.proofs.run.decide.Statement.{statement}
 use Rattle.smo.proofs.run.decide.Tie as tie
@@ -37,7 +38,7 @@ module _ (c : tie.After-struct-known) where
   s = c .before .before .before .before .before .before
 
   P : Problem
-  P = problem-of (s .args .file .now) (s .args .parameters)
+  P = problemOf (s .args .file .now) (s .args .parameters)
 
   a : ℕ → ℕ
   a = at (s .args .multipliers .now)
@@ -50,35 +51,35 @@ module _ (c : tie.After-struct-known) where
 
   kept : (i : ℕ) → i < P .count → g i ≡ gradient P a i
   unfolding s P a g
-  kept i l = s .pre .0 .kept i (omega (arith, s .pre .0 .prepared .table .counted))
+  kept i l = s .pre .0 .kept i (omega (arith, s .pre .0 .listed .table .counted))
 
-  lower-is : c .before .before .value .result ≡ b-low P a
+  lower-is : c .before .before .value .result ≡ bLow P a
   unfolding s P a g
   lower-is = c .before .before .value .ensures ∙ (λ k. bestValue (s .pre .2 k .low)) ∙ low-value P a g kept
 
-  upper-is : c .before .value2 .result ≡ b-up P a
+  upper-is : c .before .value2 .result ≡ bUp P a
   unfolding s P a g
   upper-is = c .before .value2 .ensures ∙ (λ k. bestValue (s .pre .2 k .up)) ∙ up-value P a g kept
 
-  upper-size : natAbs (b-up P a) ≤ largest-gradient
+  upper-size : natAbs (bUp P a) ≤ gradientMost
   unfolding s P a
-  upper-size = b-up-size (s .args .file .now) (s .args .order .now) (s .args .count) (s .args .parameters) (s .args .multipliers .now) (s .pre .0 .prepared)
+  upper-size = b-up-size (s .args .file .now) (s .args .order .now) (s .args .count) (s .args .parameters) (s .args .multipliers .now) (s .pre .0 .listed)
 
-  lower-size : natAbs (b-low P a) ≤ largest-gradient
+  lower-size : natAbs (bLow P a) ≤ gradientMost
   unfolding s P a
-  lower-size = b-low-size (s .args .file .now) (s .args .order .now) (s .args .count) (s .args .parameters) (s .args .multipliers .now) (s .pre .0 .prepared)
+  lower-size = b-low-size (s .args .file .now) (s .args .order .now) (s .args .count) (s .args .parameters) (s .args .multipliers .now) (s .pre .0 .listed)
 
   twice-is : pos 2 *ℤ toZ w64 t ≡ pos (2 * t)
   unfolding s t
   twice-is = ap (λ z. pos 2 *ℤ z) (toZ-pos w64 {n = t} (omega (arith, s .pre .1 .tolerance-greatest)))
 
-  limit-is : toZ w64 (ofZ w64 (c .before .value2 .result)) +ℤ toZ w64 (ofZ w64 (pos 2 *ℤ toZ w64 t)) ≡ b-up P a +ℤ pos (2 * t)
+  limit-is : toZ w64 (ofZ w64 (c .before .value2 .result)) +ℤ toZ w64 (ofZ w64 (pos 2 *ℤ toZ w64 t)) ≡ bUp P a +ℤ pos (2 * t)
   unfolding s t
   limit-is = λ k. reads-back w64 upper-is (omega (arith, upper-size)) k +ℤ reads-back w64 twice-is (omega (arith, s .pre .1 .tolerance-greatest)) k
 
-  limit-size : natAbs (b-up P a +ℤ pos (2 * t)) ≤ largest-gradient + 2000000000000
+  limit-size : natAbs (bUp P a +ℤ pos (2 * t)) ≤ gradientMost + 2000000000000
   unfolding s t
-  limit-size = let h : 2 * t ≤ 2000000000000 = omega (arith, s .pre .1 .tolerance-greatest) in +ℤ-bound (b-up P a) (pos (2 * t)) upper-size h
+  limit-size = let h : 2 * t ≤ 2000000000000 = omega (arith, s .pre .1 .tolerance-greatest) in +ℤ-bound (bUp P a) (pos (2 * t)) upper-size h
 
 mul-if1 : tie.Need-mul-if1
 unfolding s t
@@ -90,17 +91,17 @@ add-if1 c = fits-width w64 (limit-is c) (omega (arith, limit-size c))
 
 -- what the test of the thresholds says of the definition's
 module _ (c : tie.After-struct-known) where
-  lower-reads : toZ w64 (ofZ w64 (c .before .before .value .result)) ≡ b-low (P c) (a c)
+  lower-reads : toZ w64 (ofZ w64 (c .before .before .value .result)) ≡ bLow (P c) (a c)
   lower-reads = reads-back w64 (lower-is c) (omega (arith, lower-size c))
 
-  limit-reads : toZ w64 (ofZ w64 (toZ w64 (ofZ w64 (c .before .value2 .result)) +ℤ toZ w64 (ofZ w64 (pos 2 *ℤ toZ w64 (t c))))) ≡ b-up (P c) (a c) +ℤ pos (2 * t c)
+  limit-reads : toZ w64 (ofZ w64 (toZ w64 (ofZ w64 (c .before .value2 .result)) +ℤ toZ w64 (ofZ w64 (pos 2 *ℤ toZ w64 (t c))))) ≡ bUp (P c) (a c) +ℤ pos (2 * t c)
   limit-reads = reads-back w64 (limit-is c) (omega (arith, limit-size c))
 
 returns : tie.Need-returns
 unfolding s P a t
 returns c =
     let d = c .before in
-    sym (ap (λ x. decided x (pairOf (working-pair (P d) (s d .args .multipliers .now)))) ((λ k. leZ (sym (lower-reads d) k) (sym (limit-reads d) k)) ∙ c .if1 .taken))
+    sym (ap (λ x. decided x (pairOf (workingPair (P d) (s d .args .multipliers .now)))) ((λ k. leZ (sym (lower-reads d) k) (sym (limit-reads d) k)) ∙ c .if1 .taken))
 
 working-pair-requires : tie.Need-working-pair-requires
 working-pair-requires c κs = search needs
@@ -116,7 +117,7 @@ module _ (c : tie.After-working-pair) where
   d : tie.After-struct-known
   d = c .before .before
 
-  found : {x : Pair} → c .working-pair .result ≡ x → decided (leZ (b-low (P d) (a d)) (b-up (P d) (a d) +ℤ pos (2 * t d))) (pairOf (working-pair (P d) (s d .args .multipliers .now))) ≡ decided false x
+  found : {x : Pair} → c .working-pair .result ≡ x → decided (leZ (bLow (P d) (a d)) (bUp (P d) (a d) +ℤ pos (2 * t d))) (pairOf (workingPair (P d) (s d .args .multipliers .now))) ≡ decided false x
   unfolding d s P a t
   found e = λ k. decided (((λ k. leZ (sym (lower-reads d) k) (sym (limit-reads d) k)) ∙ c .before .if1 .left) k) ((sym (c .working-pair .ensures) ∙ e) k)
 

@@ -12,19 +12,19 @@ use Rattle.integers.specs.Written.{written}
 use Rattle.integers.specs.Written.Laws.{length-written, written-same, written-over}
 use Rattle.training_file.specs.declared.parameters.Parameters.{Parameters}
 use Rattle.dual_problem.specs.Problem.{Problem, gradient as gradientOf}
-use Rattle.dual_problem.specs.Items.{at, problem-of}
+use Rattle.dual_problem.specs.Items.{at, problemOf}
 use Rattle.dual_problem.specs.Thresholds.{bestValue}
 use Rattle.dual_problem.specs.Thresholds.Laws.{low-value, up-value}
+use Rattle.smo_step.specs.Step.{Candidate}
+use Rattle.smo_step.specs.State.{State}
+use Rattle.smo_step.specs.Step.Laws.{moved-length}
+use Rattle.smo_step.specs.Update.{stepped}
+use Rattle.smo_step.specs.Update.Laws.{step-state}
 use Rattle.smo.specs.declared.ending.Ending.{Ending}
 use Rattle.smo.specs.declared.run.Trained.{Trained}
-use Rattle.smo.specs.State.{State}
-use Rattle.smo.specs.Run.{Outcome, next, goes-on, run as runOf}
-use Rattle.smo.specs.Run.Meaning.{more-steps}
-use Rattle.smo.specs.WorkingPair.{Candidate}
-use Rattle.smo.specs.Step.Laws.{moved-length}
-use Rattle.smo.specs.Update.{stepped}
-use Rattle.smo.specs.Update.Laws.{step-state}
-use Rattle.smo.specs.Answer.{decisionEnding, trainedOf}
+use Rattle.smo.specs.Run.{Outcome, next, goesOn, run as runOf}
+use Rattle.smo.specs.Run.Meaning.{moreSteps}
+use Rattle.smo.specs.Answer.{decisionEnding, leftWhole, trainedOf, trainedWith}
 use Rattle.smo.specs.Answer.Laws.{decision-ends, decision-moves, loop-ends, loop-spent, loop-steps}
 use Rattle.smo.proofs.run.run.Statement.{statement}
 use Rattle.smo.proofs.run.run.Tie as tie
@@ -32,9 +32,9 @@ use Rattle.smo.proofs.run.run.Tie as tie
 record Running (file order : List ℕ) (n : ℕ) (p : Parameters) (limit : ℕ) (a₀ : List ℕ) (g₀ : List ℤ) (a : List ℕ) (g : List ℤ) (k : ℕ) : Type 0 where
   within : k ≤ limit
   state : State file order n p a g
-  so-far : runOf (problem-of file p) (p .tolerance) limit a₀ ≡ more-steps k (runOf (problem-of file p) (p .tolerance) (limit - k) a)
+  so-far : runOf (problemOf file p) (p .tolerance) limit a₀ ≡ moreSteps k (runOf (problemOf file p) (p .tolerance) (limit - k) a)
   long : length a ≡ length a₀
-  filled : g ≡ written n (gradientOf (problem-of file p) (at a)) g₀
+  filled : g ≡ written n (gradientOf (problemOf file p) (at a)) g₀
 
 abbrev Inv-loop : tie.InvT-loop
 Inv-loop file order count parameters limit multipliers₀ gradient₀ steps₀ multipliers gradient steps =
@@ -44,13 +44,13 @@ abbrev μ-loop : tie.MeasureT-loop
 μ-loop file order count parameters limit multipliers₀ gradient₀ steps₀ multipliers gradient steps = limit - steps
 
 -- no step more
-none-more : (o : Outcome) → more-steps 0 o ≡ o
+none-more : (o : Outcome) → moreSteps 0 o ≡ o
 none-more o = λ q. record { ending = o .ending; steps = zero-add (o .steps) q; multipliers = o .multipliers }
 
 loop-holds : tie.Need-loop-holds Inv-loop μ-loop
 loop-holds c =
     let s = c .before .before .before in
-    let P = problem-of (s .args .file .now) (s .args .parameters) in
+    let P = problemOf (s .args .file .now) (s .args .parameters) in
     let t = s .args .parameters .tolerance in
     record {
       within = omega arith;
@@ -63,7 +63,7 @@ loop-holds c =
 find-extremes-requires : tie.Need-find-extremes-requires Inv-loop μ-loop
 find-extremes-requires c κs =
     let state = c .before .before .loop .inv .state in
-    (state .prepared .table, state .prepared .long, state .filled)
+    (state .listed .table, state .listed .long, state .filled)
 
 decide-requires : tie.Need-decide-requires Inv-loop μ-loop
 decide-requires c κs = (
@@ -87,7 +87,7 @@ module _ (d : tie.After-decide Inv-loop μ-loop) where
   s = d .before .before .before .before .before .before .before .before .before .before
 
   P : Problem
-  P = problem-of (s .args .file .now) (s .args .parameters)
+  P = problemOf (s .args .file .now) (s .args .parameters)
 
   t : ℕ
   t = s .args .parameters .tolerance
@@ -110,10 +110,10 @@ module _ (d : tie.After-decide Inv-loop μ-loop) where
 
   kept : (i : ℕ) → i < P .count → getD g i (pos 0) ≡ gradientOf P (at a) i
   unfolding s P
-  kept i l = running .state .kept i (omega (arith, running .state .prepared .table .counted))
+  kept i l = running .state .kept i (omega (arith, running .state .listed .table .counted))
 
   -- what is answered, where the run ends here
-  answered : (e : Ending) (r : Trained) → r ≡ record { ending = e; steps = k; lower = bestValue (d .before .before .before .find-extremes .result .low); upper = bestValue (d .before .before .before .find-extremes .result .up) }
+  answered : (e : Ending) (r : Trained) → r ≡ trainedWith e k (d .before .before .before .find-extremes .result)
       → whole ≡ record { ending = e; steps = k; multipliers = a } → r ≡ trainedOf P whole
   unfolding s P a g
   answered e r h stop =
@@ -126,15 +126,20 @@ module _ (d : tie.After-decide Inv-loop μ-loop) where
       })
       ∙ sym (ap (trainedOf P) stop)
 
-  lists : (e : Ending) → whole ≡ record { ending = e; steps = k; multipliers = a } → (a ≡ whole .multipliers) × (g ≡ written (s .args .count) (gradientOf P (at (whole .multipliers))) (s .args .gradient .now))
+  -- what is left, where the run ends here
+  left : (e : Ending) (r : Trained) → r ≡ trainedWith e k (d .before .before .before .find-extremes .result)
+      → whole ≡ record { ending = e; steps = k; multipliers = a }
+      → record { trained = r; multipliers = a; gradient = g } ≡ leftWhole P (s .args .count) whole (s .args .gradient .now)
   unfolding s P
-  lists e stop = (
-    sym (λ q. stop q .multipliers),
-    running .filled ∙ sym (λ q. written (s .args .count) (gradientOf P (at (stop q .multipliers))) (s .args .gradient .now)),
-  )
+  left e r h stop =
+      λ q. record {
+        trained = answered e r h stop q;
+        multipliers = sym (λ i. stop i .multipliers) q;
+        gradient = (running .filled ∙ sym (λ i. written (s .args .count) (gradientOf P (at (stop i .multipliers))) (s .args .gradient .now))) q;
+      }
 
   lengths : (length a ≡ length (s .args .multipliers .now)) × (length g ≡ length (s .args .gradient .now))
-  lengths = (running .long, ap length (running .filled) ∙ length-written (s .args .count) (gradientOf (problem-of (s .args .file .now) (s .args .parameters)) (at a)) (s .args .gradient .now))
+  lengths = (running .long, ap length (running .filled) ∙ length-written (s .args .count) (gradientOf (problemOf (s .args .file .now) (s .args .parameters)) (at a)) (s .args .gradient .now))
 
 new-requires : tie.Need-new-requires Inv-loop μ-loop
 new-requires c κs = search needs
@@ -152,10 +157,8 @@ unfolding s P t a g k whole
 returns c =
     let d = c .before .before .before .before in
     let told = c .before .before .enum-told .given .1 in
-    let stop = loop-ends (P d) (t d) (s d .args .limit) (k d) (a d) (running d .so-far) (decision-ends (P d) (t d) (a d) (sym (d .decide .ensures) ∙ told)) in (
-      answered d _ (c .new .result) (c .new .ensures ∙ (λ q. record { ending = (c .before .ending .ensures ∙ ap decisionEnding told) q; steps = k d; lower = bestValue (d .before .before .before .find-extremes .result .low); upper = bestValue (d .before .before .before .find-extremes .result .up) })) stop,
-      lists d _ stop,
-    )
+    let stop = loop-ends (P d) (t d) (s d .args .limit) (k d) (a d) (running d .so-far) (decision-ends (P d) (t d) (a d) (sym (d .decide .ensures) ∙ told)) in
+    left d _ (c .new .result) (c .new .ensures ∙ (λ q. trainedWith ((c .before .ending .ensures ∙ ap decisionEnding told) q) (k d) (d .before .before .before .find-extremes .result))) stop
 
 new-requires-2 : tie.Need-new-requires-2 Inv-loop μ-loop
 new-requires-2 c κs = search needs
@@ -170,7 +173,7 @@ same-length-4 c = lengths (c .before .before .before .before .before) .1
 
 -- ---- a pair that moves
 module _ (c : tie.After-known-told Inv-loop μ-loop) where
-  moving : (next (P (c .before .before .before)) (t (c .before .before .before)) (a (c .before .before .before)) ≡ goes-on (stepped (P (c .before .before .before)) (a (c .before .before .before)) (c .before .decision .given .0 .0) (c .before .decision .given .0 .1 .0)))
+  moving : (next (P (c .before .before .before)) (t (c .before .before .before)) (a (c .before .before .before)) ≡ goesOn (stepped (P (c .before .before .before)) (a (c .before .before .before)) (c .before .decision .given .0 .0) (c .before .decision .given .0 .1 .0)))
       × Candidate (P (c .before .before .before)) (a (c .before .before .before)) (c .before .decision .given .0 .0) (c .before .decision .given .0 .1 .0)
   unfolding s P t a
   moving = let d = c .before .before .before in decision-moves (P d) (t d) (a d) (sym (d .decide .ensures) ∙ c .before .decision .given .1)
@@ -180,7 +183,7 @@ unfolding s P t a g k whole
 returns-2 c =
     let d = c .before .before .before .before .before in
     let stop = loop-spent (P d) (t d) (s d .args .limit) (k d) (a d) (running d .so-far) (c .before .if1 .taken) (moving (c .before .before) .0) in
-    (answered d _ (c .new2 .result) (c .new2 .ensures) stop, lists d _ stop)
+    left d _ (c .new2 .result) (c .new2 .ensures) stop
 
 take-step-requires : tie.Need-take-step-requires Inv-loop μ-loop
 unfolding s P a g
@@ -210,17 +213,17 @@ unfolding d s P t a g k
 loop-again c =
     let e = d c in
     let move = moving (c .before .before .before .before .before .before .before) in
-    let left = c .before .before .before .take-step .ensures in
+    let stepped-is = c .before .before .before .take-step .ensures in
     record {
       within = omega (arith, below c);
-      state = step-state (running e .state) (s e .pre .1 .ceiling-greatest) (move .1) (left .0) (left .1);
-      so-far = loop-steps (P e) (t e) (s e .args .limit) (k e) (a e) (running e .so-far) (below c) (move .0) ∙ ap (λ b. more-steps (k e + 1) (runOf (P e) (t e) (s e .args .limit - (k e + 1)) b)) (sym (left .0));
-      long = ap length (left .0) ∙ moved-length (P e) (a e) _ _ _ ∙ running e .long;
+      state = step-state (running e .state) (s e .pre .1 .ceiling-greatest) (move .1) (stepped-is .0) (stepped-is .1);
+      so-far = loop-steps (P e) (t e) (s e .args .limit) (k e) (a e) (running e .so-far) (below c) (move .0) ∙ ap (λ b. moreSteps (k e + 1) (runOf (P e) (t e) (s e .args .limit - (k e + 1)) b)) (sym (stepped-is .0));
+      long = ap length (stepped-is .0) ∙ moved-length (P e) (a e) _ _ _ ∙ running e .long;
       filled =
-          left .1
+          stepped-is .1
           ∙ ap (written (s e .args .count) (gradientOf (P e) (at (stepped (P e) (a e) _ _)))) (running e .filled)
           ∙ written-over (s e .args .count) _ (gradientOf (P e) (at (a e))) (s e .args .gradient .now) (pos 0) (s e .pre .0 .filled)
-          ∙ ap (λ b. written (s e .args .count) (gradientOf (P e) (at b)) (s e .args .gradient .now)) (sym (left .0));
+          ∙ ap (λ b. written (s e .args .count) (gradientOf (P e) (at b)) (s e .args .gradient .now)) (sym (stepped-is .0));
     }
 
 pub run-spec : {M : Type 1} → statement M

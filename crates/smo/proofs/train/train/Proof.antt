@@ -10,16 +10,15 @@ use lib.ListN.{length}
 use Rattle.integers.specs.Written.{written}
 use Rattle.integers.specs.Test.{&&-true, &&-false-left, &&-false-right}
 use Rattle.training_file.specs.declared.parameters.Parameters.{Parameters}
-use Rattle.training_file.specs.Reading.{reading}
-use Rattle.training_file.specs.Calls.{itemsIn, outcomeRefusal}
+use Rattle.reading.specs.Reading.{reading}
+use Rattle.reading.specs.Calls.{itemsIn, fileRefusal}
 use Rattle.dual_problem.specs.Problem.{gradient as gradientOf}
-use Rattle.dual_problem.specs.Items.{Listed, at, problem-of}
-use Rattle.dual_problem.specs.Items.Read.{Read, outcome-read, read-listed, read-ranges}
-use Rattle.smo.specs.declared.train.Training.{Training}
-use Rattle.smo.specs.declared.train.Training.the-variants.{Refused, Ended}
+use Rattle.dual_problem.specs.Items.{Listed, at, problemOf}
+use Rattle.dual_problem.specs.Items.Laws.Read.{Read, answer-read, read-listed, read-ranges}
+use Rattle.smo.specs.declared.train.Training.the-variants.{Ended}
 use Rattle.smo.specs.Run.{training}
-use Rattle.smo.specs.Train.{Demand3, Left, trainRead}
-use Rattle.smo.specs.Train.Laws.{training-trusted, train-refused, train-short, train-ended}
+use Rattle.smo.specs.Train.{TrainingLeft, TrainingQuality, trainFile, unchanged}
+use Rattle.smo.specs.Train.Laws.{training-quality, train-refused, train-short, train-ended}
 use Rattle.smo.proofs.train.train.Statement.{statement}
 use Rattle.smo.proofs.train.train.Tie as tie
 
@@ -29,8 +28,8 @@ slice-aggregate-order c = search needs
 order-requires : tie.Need-order-requires
 order-requires c κs = search needs
 
-enum-known-outcome : tie.Need-enum-known-outcome
-enum-known-outcome c = search needs
+enum-known-answer : tie.Need-enum-known-answer
+enum-known-answer c = search needs
 
 enum-told : tie.Need-enum-told
 enum-told c = search needs
@@ -38,16 +37,12 @@ enum-told c = search needs
 refusal-requires : tie.Need-refusal-requires
 refusal-requires c κs = search needs
 
--- the three clauses, where the definition gives this answer and these lists
-clauses : (file a : List ℕ) (g : List ℤ) {answer : Training} {b : List ℕ} {h : List ℤ} → trainRead (reading file) a g ≡ record { answer = answer; multipliers = b; gradient = h }
-    → (answer ≡ trainRead (reading file) a g .answer)
-    × (((b ≡ trainRead (reading file) a g .multipliers) × (h ≡ trainRead (reading file) a g .gradient)) × Demand3 (reading file) answer b)
+-- both clauses, where the definition gives this answer and these lists
+clauses : (file a : List ℕ) (g : List ℤ) {left : TrainingLeft} → trainFile file a g ≡ left
+    → (left ≡ trainFile file a g) × TrainingQuality (reading file) (left .answer) (left .multipliers)
 clauses file a g e = (
-  sym (λ k. e k .answer),
-  (
-    (sym (λ k. e k .multipliers), sym (λ k. e k .gradient)),
-    subst (λ (x : Left). Demand3 (reading file) (x .answer) (x .multipliers)) e (training-trusted (reading file) a g),
-  ),
+  sym e,
+  subst (λ (x : TrainingLeft). TrainingQuality (reading file) (x .answer) (x .multipliers)) e (training-quality (reading file) a g),
 )
 
 returns : tie.Need-returns
@@ -56,7 +51,7 @@ returns c =
     let why = c .before .enum-told .given .1 in
     clauses (a .file .now) (a .multipliers .now) (a .gradient .now)
     (train-refused (reading (a .file .now)) (a .multipliers .now) (a .gradient .now) _ (sym (c .before .before .before .before .order2 .ensures .0) ∙ why)
-    ∙ (λ k. record { answer = Refused (sym (c .refusal .ensures ∙ ap outcomeRefusal why) k); multipliers = a .multipliers .now; gradient = a .gradient .now }))
+    ∙ (λ k. unchanged (sym (c .refusal .ensures ∙ ap fileRefusal why) k) (a .multipliers .now) (a .gradient .now)))
 
 -- ---- a file that was read
 module _ (c : tie.After-known-told) where
@@ -64,14 +59,14 @@ module _ (c : tie.After-known-told) where
   s = c .before .before .before .before .before .before .before .before
 
   n : ℕ
-  n = c .before .outcome .given .0 .1 .0
+  n = c .before .answer .given .0 .1 .0
 
   p : Parameters
-  p = c .before .outcome .given .0 .0
+  p = c .before .answer .given .0 .0
 
   was-read : Read (s .args .file .now) p n
   unfolding s n p
-  was-read = outcome-read (s .args .file .now) _ _ (sym (c .before .before .before .before .order2 .ensures .0) ∙ c .before .outcome .given .1)
+  was-read = answer-read (s .args .file .now) _ _ (sym (c .before .before .before .before .order2 .ensures .0) ∙ c .before .answer .given .1)
 
 returns-2 : tie.Need-returns-2
 unfolding s n p
@@ -113,16 +108,16 @@ unfolding s n p
 returns-4 c =
     let d = c .before .before .before .before .before .before .before .before .before in
     let a = s d .args in
-    let P = problem-of (a .file .now) (p d) in
+    let P = problemOf (a .file .now) (p d) in
     let o = training P (p d .tolerance) (p d .budget) in
     let all-items : n d ≡ P .count = was-read d .counted ∙ ap (λ x. length (itemsIn x)) (sym (was-read d .is)) in
     let ran = c .before .before .before .train-read .ensures in
     clauses (a .file .now) (a .multipliers .now) (a .gradient .now)
     (train-ended (was-read d) (a .multipliers .now) (a .gradient .now) (&&-true (le-leb (n d) (length (a .multipliers .now)) (c .before .before .before .before .before .before .before .before .if1 .left)) (le-leb (n d) (length (a .gradient .now)) (c .before .before .before .before .before .before .before .if2 .left)))
     ∙ (λ k. record {
-      answer = Ended (sym (ran .0) k);
-      multipliers = sym (ran .1 .0 ∙ ap (λ m. written m (at (o .multipliers)) (a .multipliers .now)) all-items) k;
-      gradient = sym (ran .1 .1 ∙ ap (λ m. written m (gradientOf P (at (o .multipliers))) (a .gradient .now)) all-items) k;
+      answer = Ended (sym ran k .trained);
+      multipliers = sym ((λ i. ran i .multipliers) ∙ ap (λ m. written m (at (o .multipliers)) (a .multipliers .now)) all-items) k;
+      gradient = sym ((λ i. ran i .gradient) ∙ ap (λ m. written m (gradientOf P (at (o .multipliers))) (a .gradient .now)) all-items) k;
     }))
 
 pub train-spec : {M : Type 1} → statement M
@@ -131,7 +126,7 @@ train-spec =
     (tie.spec
     slice-aggregate-order
     order-requires
-    enum-known-outcome
+    enum-known-answer
     enum-told
     refusal-requires
     returns

@@ -9,8 +9,8 @@ use lib.ListN.{length}
 use Rattle.integers.specs.Written.{written}
 use Rattle.integers.specs.Written.Laws.{length-written, written-at, written-over}
 use Rattle.dual_problem.specs.Problem.{Problem, gradient as gradientOf}
-use Rattle.dual_problem.specs.Items.{Prepared, at, problem-of}
-use Rattle.smo.specs.State.{State}
+use Rattle.dual_problem.specs.Items.{MultipliersListed, at, problemOf}
+use Rattle.smo_step.specs.State.{State}
 use Rattle.smo.specs.Run.{run as runOf, training}
 use Rattle.smo.specs.Answer.{trainedOf}
 use Rattle.smo.specs.Train.Laws.{cleared-at, cleared-feasible, cleared-run, cleared-answer, cleared-gradient}
@@ -19,7 +19,7 @@ use Rattle.smo.proofs.train.train_read.Tie as tie
 
 module _ (s : tie.Start) where
   P : Problem
-  P = problem-of (s .args .file .now) (s .args .parameters)
+  P = problemOf (s .args .file .now) (s .args .parameters)
 
   all-items : s .args .count ≡ P .count
   unfolding P
@@ -32,12 +32,12 @@ module _ (s : tie.Start) where
   zeros : List ℕ
   zeros = written (P .count) (λ (i : ℕ). 0) (s .args .multipliers .now)
 
-  zeros-prepared : Prepared (s .args .file .now) (s .args .order .now) (s .args .count) (s .args .parameters) zeros
+  zeros-listed : MultipliersListed (s .args .file .now) (s .args .order .now) (s .args .count) (s .args .parameters) zeros
   unfolding zeros
-  zeros-prepared =
+  zeros-listed =
       record {
         table = s .pre .0;
-        used = s .pre .1 .features-greatest;
+        used = s .pre .1 .used-greatest;
         grid = s .pre .1 .grid-greatest;
         long = omega (arith, s .pre .2, length-written (P .count) (λ (i : ℕ). 0) (s .args .multipliers .now));
         small = λ i l. omega (arith, cleared-at P (s .args .multipliers .now) long i (omega (arith, all-items)));
@@ -58,7 +58,7 @@ fill-gradient-requires : tie.Need-fill-gradient-requires
 unfolding begun P
 fill-gradient-requires c κs =
     let d = c .before .before .before .before in
-    (subst (λ a. Prepared (begun d .args .file .now) (begun d .args .order .now) (begun d .args .count) (begun d .args .parameters) a) (sym (cleared-is d)) (zeros-prepared (begun d)), begun d .pre .3)
+    (subst (λ a. MultipliersListed (begun d .args .file .now) (begun d .args .order .now) (begun d .args .count) (begun d .args .parameters) a) (sym (cleared-is d)) (zeros-listed (begun d)), begun d .pre .3)
 
 module _ (c : tie.After-fill-gradient) where
   d : tie.After-clear
@@ -75,7 +75,7 @@ module _ (c : tie.After-fill-gradient) where
   unfolding P zeros
   state =
       record {
-        prepared = zeros-prepared s;
+        listed = zeros-listed s;
         feasible = cleared-feasible (P s) (s .args .multipliers .now) (long s);
         filled = omega (arith, s .pre .3, length-written (s .args .count) (gradientOf (P s) (at (zeros s))) (s .args .gradient .now));
         kept = written-at (s .args .count) (gradientOf (P s) (at (zeros s))) (s .args .gradient .now) (pos 0) (s .pre .3);
@@ -101,17 +101,20 @@ returns c =
     let t = b .args .parameters .tolerance in
     let budget = b .args .parameters .budget in
     let l = b .args .multipliers .now in
-    let ran = c .before .before .before .run .ensures in (
-      ran .0 ∙ ap (λ a. trainedOf (P b) (runOf (P b) t budget a)) (cleared-is (d e)) ∙ cleared-answer (P b) l (long b) t budget,
-      (
-        ran .1 .0 ∙ (λ k. runOf (P b) t budget (cleared-is (d e) k) .multipliers) ∙ (λ k. cleared-run (P b) l (long b) t budget k .multipliers)
-            ∙ ap (λ n. written n (at (training (P b) t budget .multipliers)) l) (sym (all-items b)),
-        ran .1 .1
-            ∙ (λ k. written (b .args .count) (gradientOf (P b) (at (runOf (P b) t budget (cleared-is (d e) k) .multipliers))) (filled-is e k))
-            ∙ written-over (b .args .count) (gradientOf (P b) (at (runOf (P b) t budget (zeros b) .multipliers))) (gradientOf (P b) (at (zeros b))) (b .args .gradient .now) (pos 0) (b .pre .3)
-            ∙ cleared-gradient (P b) l (long b) t budget (b .args .count) (b .args .gradient .now),
-      ),
-    )
+    let ran = c .before .before .before .run .ensures in
+    let multipliers =
+    (λ k. runOf (P b) t budget (cleared-is (d e) k) .multipliers) ∙ (λ k. cleared-run (P b) l (long b) t budget k .multipliers)
+    ∙ ap (λ n. written n (at (training (P b) t budget .multipliers)) l) (sym (all-items b)) in
+    let gradient =
+    (λ k. written (b .args .count) (gradientOf (P b) (at (runOf (P b) t budget (cleared-is (d e) k) .multipliers))) (filled-is e k))
+    ∙ written-over (b .args .count) (gradientOf (P b) (at (runOf (P b) t budget (zeros b) .multipliers))) (gradientOf (P b) (at (zeros b))) (b .args .gradient .now) (pos 0) (b .pre .3)
+    ∙ cleared-gradient (P b) l (long b) t budget (b .args .count) (b .args .gradient .now) in
+    ran
+    ∙ (λ k. record {
+      trained = (ap (λ a. trainedOf (P b) (runOf (P b) t budget a)) (cleared-is (d e)) ∙ cleared-answer (P b) l (long b) t budget) k;
+      multipliers = multipliers k;
+      gradient = gradient k;
+    })
 
 pub train-read-spec : {M : Type 1} → statement M
 train-read-spec =

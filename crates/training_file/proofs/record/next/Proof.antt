@@ -1,8 +1,8 @@
 -- `training_file::record::next` meets its contract. Assumes nothing.
 use mathlib.Core.Path.{ap, _∙_}
 use native.Mathlib.Omega.{arith}
-use Rattle.training_file.specs.Layout.{le2}
 use borrow.Author.Needs.{needs}
+use Rattle.training_file.specs.Layout.{le2}
 use Rattle.training_file.proofs.record.next.Statement.{statement}
 use Rattle.training_file.proofs.record.next.Tie as tie
 

@@ -11,7 +11,7 @@ use mir.Syntax.{w64}
 use mir.Val.{toZ, ofZ}
 use Rattle.integers.specs.Bounds.{reads-element}
 use Rattle.dual_problem.specs.declared.thresholds.Best.the-variants.{At}
-use Rattle.dual_problem.specs.Thresholds.{bestBeside, comes-first}
+use Rattle.dual_problem.specs.Thresholds.{bestBeside, comesFirst}
 use Rattle.dual_problem.proofs.thresholds.Best.beside.Statement.{statement}
 use Rattle.dual_problem.proofs.thresholds.Best.beside.Tie as tie
 
@@ -22,7 +22,9 @@ enum-told : tie.Need-enum-told
 enum-told c = search needs
 
 returns : tie.Need-returns
-returns c = cc (toZ-ofZ (c .before .before .fits .value))
+returns c =
+    let s = c .before .before in
+    (λ i. At (s .args .place) (toZ-ofZ (s .fits .value) i)) ∙ sym (ap (λ b. bestBeside b (s .args .place) (s .args .value) (s .args .least)) (c .enum-told .given .1))
 
 -- the best so far is at k with the value v, and the flag says whether the new value comes first
 module _ (c : tie.Joined1) where
@@ -39,12 +41,12 @@ module _ (c : tie.Joined1) where
   unfolding v
   v-reads = reads-element w64 v (c .before .known-told .given .1 .0 .1)
 
-  flag-is : c .if1 .better ≡ comes-first (s .args .least) (s .args .value) v
+  flag-is : c .if1 .better ≡ comesFirst (s .args .least) (s .args .value) v
   unfolding s v
   flag-is =
       ⊎-elim
-      (λ w. w .1 ∙ (λ i. ltZ (toZ-ofZ (s .fits .value) i) (v-reads i)) ∙ ap (λ l. comes-first l (s .args .value) v) (sym (w .0 .taken)))
-      (λ w. w .1 ∙ (λ i. ltZ (v-reads i) (toZ-ofZ (s .fits .value) i)) ∙ ap (λ l. comes-first l (s .args .value) v) (sym (w .0 .left)))
+      (λ w. w .1 ∙ (λ i. ltZ (toZ-ofZ (s .fits .value) i) (v-reads i)) ∙ ap (λ l. comesFirst l (s .args .value) v) (sym (w .0 .taken)))
+      (λ w. w .1 ∙ (λ i. ltZ (v-reads i) (toZ-ofZ (s .fits .value) i)) ∙ ap (λ l. comesFirst l (s .args .value) v) (sym (w .0 .left)))
       (c .if1 .came)
 
   chosen : {t : Bool} → c .if1 .better ≡ t → bestBeside (s .args .self) (s .args .place) (s .args .value) (s .args .least) ≡ cond t (At (s .args .place) (s .args .value)) (At k v)

@@ -1,9 +1,9 @@
 -- `dual_problem::thresholds::Best::value` meets its contract. Assumes nothing.
 use mathlib.Core.Path.{_∙_, ap, sym}
-use Rattle.dual_problem.specs.Thresholds.{bestValue}
 use mir.Syntax.{w64}
-use Rattle.integers.specs.Bounds.{reads-element}
 use borrow.Author.Needs.{needs}
+use Rattle.integers.specs.Bounds.{reads-element}
+use Rattle.dual_problem.specs.Thresholds.{bestValue}
 use Rattle.dual_problem.proofs.thresholds.Best.value.Statement.{statement}
 use Rattle.dual_problem.proofs.thresholds.Best.value.Tie as tie
 
@@ -14,7 +14,7 @@ enum-known-self : tie.Need-enum-known-self
 enum-known-self c = search needs
 
 returns : tie.Need-returns
-returns c = cc
+returns c = sym (ap bestValue (c .enum-told .given .1))
 
 returns-2 : tie.Need-returns-2
 returns-2 c = reads-element w64 (c .before .self .given .0 .1 .0) (c .known-told .given .1 .0 .1) ∙ ap bestValue (sym (c .before .self .given .1))

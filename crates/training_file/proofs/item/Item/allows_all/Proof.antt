@@ -8,21 +8,22 @@ use native.Mathlib.Omega.{arith}
 use lib.Dec.{ltb}
 use borrow.Author.Needs.{needs}
 use borrow.Author.Tests.{not-true, not-false}
-use Rattle.training_file.specs.Layout.{byteAt}
-use Rattle.training_file.specs.Item.{allBelow, featureByteAllowed, featuresAllowed}
-use Rattle.training_file.specs.ItemLaws.{all-fails}
+use Rattle.integers.specs.Places.{all}
+use Rattle.integers.specs.Places.Laws.{all-fails}
+use Rattle.training_file.specs.Layout.{byteAt, featureCount}
+use Rattle.training_file.specs.Item.{featureByteAllowed, featuresAllowed}
 use Rattle.training_file.proofs.item.Item.allows_all.Statement.{statement}
 use Rattle.training_file.proofs.item.Item.allows_all.Tie as tie
 
 abbrev Inv-loop : tie.InvT-loop
 Inv-loop part used i₀ i =
-    (i ≤ 16) × (allBelow i (λ k. featureByteAllowed (ltb k used) (byteAt part k)) ≡ true)
+    (i ≤ featureCount) × (all i (λ k. featureByteAllowed (ltb k used) (byteAt part k)) ≡ true)
 
 abbrev μ-loop : tie.MeasureT-loop
-μ-loop part used i₀ i = 16 - i
+μ-loop part used i₀ i = featureCount - i
 
 loop-holds : tie.Need-loop-holds Inv-loop μ-loop
-unfolding allBelow
+unfolding all
 loop-holds c = (omega arith, refl)
 
 shared-slice-read-allows-byte : tie.Need-shared-slice-read-allows-byte Inv-loop μ-loop
@@ -35,7 +36,7 @@ returns : tie.Need-returns Inv-loop μ-loop
 unfolding featuresAllowed
 returns c =
     sym
-    (all-fails 16 _ (c .before .before .before .before .loop .i) (omega arith) (sym (c .before .allows-byte .ensures) ∙ not-true _ (c .if1 .taken)))
+    (all-fails _ featureCount (c .before .before .before .before .loop .i) (omega arith) (sym (c .before .allows-byte .ensures) ∙ not-true _ (c .if1 .taken)))
 
 add-i : tie.Need-add-i Inv-loop μ-loop
 add-i c = omega arith
@@ -44,14 +45,14 @@ loop-less : tie.Need-loop-less Inv-loop μ-loop
 loop-less c = omega arith
 
 loop-again : tie.Need-loop-again Inv-loop μ-loop
-unfolding allBelow
+unfolding all
 loop-again c =
     (omega arith, rw (add-one, c .before .before .before .before .loop .inv .1) (sym (c .before .allows-byte .ensures) ∙ not-false _ (c .if1 .left)))
 
 returns-2 : tie.Need-returns-2 Inv-loop μ-loop
 unfolding featuresAllowed
 returns-2 c =
-    let e : c .before .loop .i ≡ 16 = omega arith in
+    let e : c .before .loop .i ≡ featureCount = omega arith in
     sym (rw e at (c .before .loop .inv .1))
 
 pub allows-all-spec : {M : Type 1} → statement M

@@ -38,11 +38,11 @@ itemAt label features = record { label = label; features = features }
 loop-holds : tie.Need-loop-holds Inv-loop μ-loop
 loop-holds c = (omega arith, refl, λ k h. absurd (omega arith))
 
-shared-slice-read-signed : tie.Need-shared-slice-read-signed Inv-loop μ-loop
-shared-slice-read-signed c = omega arith
+shared-slice-read-signed-byte : tie.Need-shared-slice-read-signed-byte Inv-loop μ-loop
+shared-slice-read-signed-byte c = omega arith
 
-signed-requires : tie.Need-signed-requires Inv-loop μ-loop
-signed-requires c κs = search needs
+signed-byte-requires : tie.Need-signed-byte-requires Inv-loop μ-loop
+signed-byte-requires c κs = search needs
 
 array-set-from-features : tie.Need-array-set-from-features Inv-loop μ-loop
 array-set-from-features c = omega arith
@@ -55,12 +55,12 @@ loop-less c = omega arith
 
 loop-again : tie.Need-loop-again Inv-loop μ-loop
 loop-again c =
-    let bits = toZ-ofZ w8 (c .signed .result) (record { sfits = c .signed .ok }) in (
+    let bits = toZ-ofZ w8 (c .signed-byte .result) (record { sfits = c .signed-byte .ok }) in (
       omega arith,
       simp length-set (c .before .before .before .loop .inv .1),
       stored (c .before .before .before .loop .features) (c .before .before .before .loop .i) _
           (λ k. signedByte (byteAt (c .before .before .before .before .before .args .part .now) k)) (omega arith)
-          (bits ∙ c .signed .ensures) (c .before .before .before .loop .inv .2),
+          (bits ∙ c .signed-byte .ensures) (c .before .before .before .loop .inv .2),
     )
 
 returns : tie.Need-returns Inv-loop μ-loop
@@ -79,8 +79,8 @@ of-judged-spec =
     Inv-loop
     μ-loop
     loop-holds
-    shared-slice-read-signed
-    signed-requires
+    shared-slice-read-signed-byte
+    signed-byte-requires
     array-set-from-features
     add-i
     loop-less

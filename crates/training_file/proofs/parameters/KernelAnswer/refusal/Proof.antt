@@ -1,4 +1,7 @@
+-- `training_file::parameters::KernelAnswer::refusal` meets its contract. Assumes nothing.
+use mathlib.Core.Path.{sym, ap}
 use borrow.Author.Needs.{needs}
+use Rattle.training_file.specs.Answers.{kernelRefusal}
 use Rattle.training_file.proofs.parameters.KernelAnswer.refusal.Statement.{statement}
 use Rattle.training_file.proofs.parameters.KernelAnswer.refusal.Tie as tie
 
@@ -9,10 +12,10 @@ enum-told : tie.Need-enum-told
 enum-told c = search needs
 
 returns : tie.Need-returns
-returns c = search needs
+returns c = sym (ap kernelRefusal (c .before .self .given .1))
 
 returns-2 : tie.Need-returns-2
-returns-2 c = cc
+returns-2 c = sym (ap kernelRefusal (c .enum-told .given .1))
 
 pub refusal-spec : {M : Type 1} → statement M
 refusal-spec = tie.close (tie.spec enum-known-self enum-told returns returns-2)

@@ -1,0 +1,59 @@
+-- What a file that was accepted gives the layers above: the table serves, the parameters are in their ranges. Assumes nothing.
+use mathlib.Core.Path.{_≡_, refl, sym, _∙_, ap, subst}
+use mathlib.Core.List.{List}
+use Prim.Native.Nat.{ℕ, _≤_}
+use native.Mathlib.Nat.{le-trans}
+use native.Mathlib.Omega.{arith}
+use lib.IntN.{pos, natAbs}
+use lib.ListN.{length, getD}
+use Rattle.training_file.specs.declared.parameters.Parameters.{Parameters}
+use Rattle.training_file.specs.declared.item.Item.{Item}
+use Rattle.training_file.specs.Parameters.{Ranges, recordsMost}
+use Rattle.training_file.specs.Layout.{signedMost}
+use Rattle.reading.specs.declared.reader.FileAnswer.the-variants.{Accepted}
+use Rattle.reading.specs.Reading.{Reading, refused, accepted, reading}
+use Rattle.reading.specs.Reading.Laws.{accepted-is}
+use Rattle.reading.specs.Calls.{itemIn, itemsIn, orderIn, fileAnswer, tableAfter}
+use Rattle.reading.specs.Calls.Laws.{table-serves}
+use Rattle.reading.specs.Reading.Laws.Accepted.{accepted-ranges, items-counted, items-most, item-features-most}
+use Rattle.dual_problem.specs.Items.{Listed}
+
+-- the file is read as these parameters, and n items
+pub record Read (file : List ℕ) (p : Parameters) (n : ℕ) : Type 0 where
+  pub order : List ℕ
+  pub items : List Item
+  pub is : reading file ≡ accepted p order items
+  pub counted : n ≡ length items
+
+pub answer-read : (file : List ℕ) (p : Parameters) (n : ℕ) → fileAnswer (reading file) ≡ Accepted p n → Read file p n
+answer-read file p n e = by (reading file) refl e
+  where
+    by : (r : Reading) → reading file ≡ r → fileAnswer r ≡ Accepted p n → Read file p n
+    by (refused number) f q = let z : _≡_ {A = ℕ} 0 1 = cc in absurd (omega arith)
+    by (accepted p′ rs items) f q =
+        let parameters : p′ ≡ p = cc in
+        let count : length rs ≡ n = cc in
+        record {
+          order = rs;
+          items = items;
+          is = f ∙ ap (λ x. accepted x rs items) parameters;
+          counted = sym count ∙ sym (items-counted file p′ rs items (accepted-is file p′ rs items f));
+        }
+
+module _ {file : List ℕ} {p : Parameters} {n : ℕ} (r : Read file p n) where
+  pub read-ranges : Ranges p
+  read-ranges = accepted-ranges file p (r .order) (r .items) (accepted-is file p (r .order) (r .items) (r .is))
+
+  -- a table of a place for each record that can be stored, once the order was written into it
+  pub read-listed : (table : List ℕ) → length table ≡ recordsMost → Listed file (tableAfter (reading file) table) n
+  read-listed table long =
+      let a = accepted-is file p (r .order) (r .items) (r .is) in
+      let items = items-counted file p (r .order) (r .items) a in
+      let most = items-most file p (r .order) (r .items) a in
+      let order-is : length (orderIn (reading file)) ≡ length (r .order) = ap (λ x. length (orderIn x)) (r .is) in
+      record {
+        few = omega (arith, r .counted);
+        counted = r .counted ∙ ap (λ x. length (itemsIn x)) (sym (r .is));
+        tabled = λ i l. table-serves file table i (omega (arith, r .counted)) (omega (arith, r .counted));
+        sized = λ i l q. subst (λ x. natAbs (getD (itemIn (itemsIn x) i .features) q (pos 0)) ≤ signedMost) (sym (r .is)) (le-trans (item-features-most file p (r .order) (r .items) a i (omega (arith, r .counted)) q) (omega arith));
+      }

@@ -1,0 +1,95 @@
+-- The distance bound of demand 3: no feasible multipliers, on the grid or on a finer one, have an objective below that of feasible
+-- multipliers a by more than 2 × gap × c × ⌊n/2⌋. Of the kernel it uses only that its values are a Gram form. Assumes nothing.
+use mathlib.Core.Path.{_≡_, refl, sym, _∙_, ap, subst}
+use mathlib.Core.Bool.{true}
+use mathlib.Core.List.{[], _∷_}
+use Prim.Native.Nat.{ℕ, _*_, _/_, _≤_, _<_}
+use native.Mathlib.Nat.{le-trans, mul-le-mul-left, lt-of-mul-lt-mul-left}
+use native.Mathlib.Omega.{arith}
+use borrow.Author.Tests.{lt-ltb}
+use lib.IntN.{ℤ, pos, negsuc, negℤ, natAbs, _+ℤ_, _-ℤ_, _*ℤ_}
+use lib.Dec.{ltb}
+use lib.Signed.{_≤ℤ_, ≤ℤ-refl}
+use Rattle.integers.specs.Solver.{con, ⊝_, _⊕_, _⊗_, _⊖_, x₀, x₁, x₂, x₃, x₄, x₅, x₆, solve}
+use Rattle.integers.specs.Linear.{posPart, negPart, -ℤ-parts, negℤ-parts, *ℤ-parts, natAbs-parts, one-part}
+use Rattle.integers.specs.Bounds.{natAbs-*ℤ}
+use Rattle.integers.specs.Order.{positivity, certificate}
+use Rattle.integers.specs.Sum.{sum}
+use Rattle.integers.specs.Sum.Laws.{sum-cong, sum-*ℤ, sum--ℤ}
+use Rattle.integers.specs.Gram.{Gram, quadratic}
+use Rattle.integers.specs.Gram.Laws.{quadratic-nonneg}
+use Rattle.integers.specs.Extremum.Laws.{least-bounds, greatest-bounds}
+use Rattle.integers.specs.Sum.Laws.Balanced.{balanced-bound}
+use Rattle.training_file.specs.declared.item.Label.{Label}
+use Rattle.training_file.specs.declared.item.Label.the-variants.{LookedUp, PassedOver}
+use Rattle.training_file.specs.Item.{opposite}
+use Rattle.dual_problem.specs.Problem.{Problem, Feasible, Finer, WithinDistance, sign, y, gradient, up, low, inUp, inLow, bUp, bLow, objective, gap, bound, notBelowZero}
+use Rattle.dual_problem.specs.Problem.Laws.{change, expansion}
+use Rattle.dual_problem.specs.Problem.Laws.Sets.{opposite-sign}
+
+-- ---- at a place: a multiplier a of a ceiling c, and v of m times that ceiling
+module _ (m a c v : ℕ) (inside : a ≤ c) (finer : v ≤ m * c) where
+  -- v − m × a, before the label's sign
+  rise : ℤ
+  rise = pos v -ℤ pos m *ℤ pos a
+
+  -- the change is at most m times the ceiling in size
+  change-size : (l : Label) → natAbs (sign l *ℤ rise) ≤ m * c
+  unfolding rise
+  change-size LookedUp = omega (arith, natAbs-*ℤ (pos 1) rise, natAbs-parts rise, -ℤ-parts (pos v) (pos (m * a)), one-part rise, mul-le-mul-left m inside)
+  change-size PassedOver = omega (arith, natAbs-*ℤ (negsuc 0) rise, natAbs-parts rise, -ℤ-parts (pos v) (pos (m * a)), one-part rise, mul-le-mul-left m inside)
+
+  -- a multiplier that rises is below its ceiling, one that falls is above 0
+  rises : m * a < v → ltb a c ≡ true
+  rises h = lt-ltb a c (lt-of-mul-lt-mul-left m (omega arith))
+
+  falls : v < m * a → ltb 0 a ≡ true
+  falls h = lt-ltb 0 a (lt-of-mul-lt-mul-left m (omega arith))
+
+  -- where the change is positive the place is in the up set, where it is negative in the low set
+  change-up : (l : Label) → 0 < posPart (sign l *ℤ rise) → inUp l a c ≡ true
+  unfolding rise
+  change-up LookedUp h = rises (omega (arith, *ℤ-parts (pos 1) rise, -ℤ-parts (pos v) (pos (m * a)), one-part (pos 1 *ℤ rise)))
+  change-up PassedOver h = falls (omega (arith, *ℤ-parts (negsuc 0) rise, -ℤ-parts (pos v) (pos (m * a)), one-part (negsuc 0 *ℤ rise)))
+
+  change-low : (l : Label) → 0 < negPart (sign l *ℤ rise) → inLow l a c ≡ true
+  change-low l h = change-up (opposite l) (rw (opposite-sign l rise) (omega (arith, negℤ-parts (sign l *ℤ rise), one-part (sign l *ℤ rise), one-part (negℤ (sign l *ℤ rise)))))
+
+gap-bounds : (lower upper : ℤ) → (lower -ℤ upper) ≤ℤ pos (gap lower upper)
+gap-bounds lower upper = by-sign (lower -ℤ upper)
+  where
+    by-sign : (z : ℤ) → z ≤ℤ pos (notBelowZero z)
+    by-sign (pos n) = ≤ℤ-refl (pos n)
+    by-sign (negsuc n) = record { le = tt }
+
+-- ---- the bound
+module _ (P : Problem) (gram : Gram (P .count) (P .kernel)) (a : ℕ → ℕ) (feasible : Feasible P a) where
+  module _ (m : ℕ) (v : ℕ → ℕ) (finer : Finer P m v) where
+    change-balanced : sum (P .count) (change P m a v) ≡ pos 0
+    change-balanced =
+        sum-cong (P .count) (change P m a v) (λ i. pos (v i) *ℤ y P i -ℤ pos m *ℤ (pos (a i) *ℤ y P i))
+        (λ i l. solve (y P i ∷ pos (v i) ∷ pos m ∷ pos (a i) ∷ []) (x₀ ⊗ (x₁ ⊖ x₂ ⊗ x₃)) (x₁ ⊗ x₀ ⊖ x₂ ⊗ (x₃ ⊗ x₀)) refl)
+        ∙ sum--ℤ (P .count) (λ i. pos (v i) *ℤ y P i) (λ i. pos m *ℤ (pos (a i) *ℤ y P i))
+        ∙ (λ d. finer .balanced d -ℤ (sum-*ℤ (P .count) (pos m) (λ i. pos (a i) *ℤ y P i) ∙ ap (λ z. pos m *ℤ z) (feasible .balanced)) d)
+        ∙ solve (pos m ∷ []) (con (pos 0) ⊖ x₀ ⊗ con (pos 0)) (con (pos 0)) refl
+
+    -- the gradient along the change
+    gradient-bound : (c : ℕ) → ((i : ℕ) → i < P .count → P .ceiling i ≤ c) → negℤ (pos (gap (bLow P a) (bUp P a)) *ℤ pos (m * c * (P .count / 2))) ≤ℤ sum (P .count) (λ i. change P m a v i *ℤ gradient P a i)
+    unfolding rise
+    gradient-bound c top =
+        balanced-bound (bUp P a) (bLow P a) (P .count) (m * c) (change P m a v) (gradient P a) change-balanced
+        (λ i l. le-trans (change-size m (a i) (P .ceiling i) (v i) (feasible .within i l) (finer .within i l) (P .label i)) (mul-le-mul-left m (top i l)))
+        (λ i l h. least-bounds (P .count) (up P a) (gradient P a) l (change-up m (a i) (P .ceiling i) (v i) (feasible .within i l) (finer .within i l) (P .label i) h))
+        (λ i l h. greatest-bounds (P .count) (low P a) (gradient P a) l (change-low m (a i) (P .ceiling i) (v i) (feasible .within i l) (finer .within i l) (P .label i) h))
+        (gap (bLow P a) (bUp P a)) (gap-bounds (bLow P a) (bUp P a))
+
+  -- demand 3, where no ceiling is above c
+  pub distance-bound : (c : ℕ) → ((i : ℕ) → i < P .count → P .ceiling i ≤ c) → WithinDistance (bound (gap (bLow P a) (bUp P a)) c (P .count)) P a
+  unfolding WithinDistance
+  distance-bound c top m positive v finer =
+      let q : pos 0 ≤ℤ quadratic (P .count) (P .kernel) (change P m a v) = quadratic-nonneg gram (change P m a v) in
+      let w = gradient-bound m v finer c top in
+      subst (λ z. (pos (m * m) *ℤ objective P a) ≤ℤ (z +ℤ pos (m * m) *ℤ pos (bound (gap (bLow P a) (bUp P a)) c (P .count)))) (sym (expansion P gram m a v))
+      (certificate (objective P a ∷ quadratic (P .count) (P .kernel) (change P m a v) ∷ sum (P .count) (λ i. change P m a v i *ℤ gradient P a i) ∷ pos m ∷ pos (gap (bLow P a) (bUp P a)) ∷ pos c ∷ pos (P .count / 2) ∷ [])
+      (x₃ ⊗ x₃ ⊗ x₀) (x₃ ⊗ x₃ ⊗ x₀ ⊕ (x₁ ⊕ con (pos 2) ⊗ x₃ ⊗ x₂) ⊕ x₃ ⊗ x₃ ⊗ (con (pos 2) ⊗ x₄ ⊗ x₅ ⊗ x₆))
+      (x₁ ⊕ con (pos 2) ⊗ x₃ ⊗ (x₂ ⊖ ⊝ (x₄ ⊗ (x₃ ⊗ x₅ ⊗ x₆)))) refl (search positivity))

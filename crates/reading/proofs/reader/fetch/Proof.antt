@@ -1,0 +1,26 @@
+-- `reading::reader::fetch` meets its contract: the table's number is that of the item's record. Assumes nothing.
+use mathlib.Core.Path.{_∙_}
+use native.Mathlib.Omega.{arith}
+use borrow.Author.Needs.{needs}
+use Rattle.reading.specs.Reading.Laws.Accepted.{tabled-item, tabled-stored}
+use Rattle.reading.proofs.reader.fetch.Statement.{statement}
+use Rattle.reading.proofs.reader.fetch.Tie as tie
+
+mul-number : tie.Need-mul-number
+mul-number c = search needs
+
+shared-slice-read-number : tie.Need-shared-slice-read-number
+shared-slice-read-number c = search needs
+
+cast-fetch : tie.Need-cast-fetch
+cast-fetch c = omega (arith, c .shared-slice-known3 .given (c .before .before .before .args .place))
+
+fetch-requires : tie.Need-fetch-requires
+fetch-requires c κs = tabled-stored _ _ _ (c .before .before .before .pre)
+
+returns : tie.Need-returns
+returns c = c .fetch .ensures ∙ tabled-item _ _ _ (c .before .before .before .before .pre)
+
+pub fetch-spec : {M : Type 1} → statement M
+fetch-spec =
+    tie.close (tie.spec mul-number shared-slice-read-number cast-fetch fetch-requires returns)

@@ -1,0 +1,51 @@
+-- What the public calls answer, by the main definition (Reading). Laws are in Calls/Laws.antt. Assumes nothing.
+pub mod Laws
+use mathlib.Core.Path.{_≡_}
+use mathlib.Core.List.{List, [], _++_}
+use Prim.Native.Nat.{ℕ, _<_}
+use lib.ListN.{length, getD, take, drop}
+use Rattle.training_file.specs.declared.item.Label.the-variants.{PassedOver}
+use Rattle.training_file.specs.declared.item.Item.{Item}
+use Rattle.training_file.specs.declared.refusal.Refusal.{Refusal}
+use Rattle.training_file.specs.Refusal.{noRefusal, refusal}
+use Rattle.reading.specs.declared.reader.FileAnswer.{FileAnswer}
+use Rattle.reading.specs.declared.reader.FileAnswer.the-variants.{Refused, Accepted}
+use Rattle.reading.specs.Reading.{Reading, accepted, reading, refused}
+
+-- what reading a file answers: the refusal's number, or the parameters and how many items there are
+abbrev pub fileAnswer : Reading → FileAnswer
+fileAnswer (refused number) = Refused (refusal number)
+fileAnswer (accepted parameters records items) = Accepted parameters (length records)
+
+-- a table with the record numbers of a list in its first places, as many as it has places for; later places keep theirs
+abbrev pub tableWith : List ℕ → List ℕ → List ℕ
+tableWith records table = take (length table) records ++ drop (length records) table
+
+-- the refusal that an answer is
+abbrev pub fileRefusal : FileAnswer → Refusal
+fileRefusal (Refused why) = why
+fileRefusal (Accepted parameters count) = noRefusal
+
+-- the lent order table afterwards: the record numbers in chain order are written into it; on a refusal it keeps its contents
+abbrev pub tableAfter : Reading → List ℕ → List ℕ
+tableAfter (refused number) table = table
+tableAfter (accepted parameters records items) table = tableWith records table
+
+-- the record numbers and the items of a file that is accepted, in chain order; none of one that is refused
+abbrev pub orderIn : Reading → List ℕ
+orderIn (refused number) = []
+orderIn (accepted parameters records items) = records
+
+abbrev pub itemsIn : Reading → List Item
+itemsIn (refused number) = []
+itemsIn (accepted parameters records items) = items
+
+-- the item at a place of a list, counted from 0; past its end, one without features
+abbrev pub itemIn : List Item → ℕ → Item
+itemIn items place = getD items place (record { label = PassedOver; features = [] })
+
+-- what fetching an item by its place relies on: the place is one of an accepted file, and the table has its record number
+pub record Tabled (file table : List ℕ) (place : ℕ) : Type 0 where
+  pub counted : place < length (orderIn (reading file))
+  pub held : place < length table
+  pub same : getD table place 0 ≡ getD (orderIn (reading file)) place 0

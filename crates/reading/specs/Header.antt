@@ -1,0 +1,35 @@
+-- The header judged: refusals 1 and 2 of document 01. Laws are in Header/Laws.antt. Assumes nothing.
+pub mod Laws
+use mathlib.Core.Bool.{Bool, _&&_}
+use mathlib.Core.List.{List}
+use Prim.Native.Nat.{ℕ, _+_, _*_}
+use lib.Dec.{leb, eqb}
+use lib.ListN.{length}
+use Rattle.training_file.specs.declared.parameters.Parameters.{Parameters}
+use Rattle.training_file.specs.Layout.{ceilingUnits, featuresInUse, firstRecord, gridUnits, kernelByte, recordsStored, spare, spareEnd, stepBudget, toleranceUnits}
+use Rattle.training_file.specs.Parameters.{kernelAllowed, kernelOfByte, parametersAllowed, recordsMost}
+
+-- refusal 1: "under 32 bytes, m over 256, or a length other than 32 + 20 × m"
+unfoldable pub lengthAllowed : List ℕ → Bool
+lengthAllowed file =
+    leb 32 (length file) && leb (recordsStored file) recordsMost && eqb (length file) (32 + 20 * recordsStored file)
+
+abbrev pub parametersOf : List ℕ → Parameters
+parametersOf file =
+    record {
+      used = featuresInUse file;
+      kernel = kernelOfByte (kernelByte file);
+      grid = gridUnits file;
+      ceiling = ceilingUnits file;
+      tolerance = toleranceUnits file;
+      budget = stepBudget file;
+    }
+
+-- refusal 2: "a header field beyond its range, or a spare byte not 0". The first record is "0 to m".
+unfoldable pub headerAllowed : List ℕ → Bool
+headerAllowed file =
+    leb (firstRecord file) (recordsStored file)
+    && eqb (spare file) 0
+    && eqb (spareEnd file) 0
+    && kernelAllowed (kernelByte file)
+    && parametersAllowed (parametersOf file)

@@ -1,0 +1,48 @@
+-- Files read by the main definition, as it computes: the training program's example of document 01, and the same with one
+-- fault each. Assumes nothing.
+use mathlib.Core.Path.{_≡_, refl}
+use mathlib.Core.List.{List, [], _∷_, _++_, map}
+use Prim.Native.Nat.{ℕ}
+use lib.IntN.{pos, negsuc}
+use lib.ListN.{replicate, set, take}
+use Rattle.integers.specs.Places.{all}
+use Rattle.training_file.specs.declared.parameters.Kernel.the-variants.{Linear}
+use Rattle.training_file.specs.declared.item.Label.the-variants.{LookedUp, PassedOver}
+use Rattle.training_file.specs.Parameters.{parametersAllowed}
+use Rattle.training_file.specs.Item.{featuresAllowed}
+use Rattle.training_file.specs.Record.{recordAllowed}
+use Rattle.reading.specs.Header.{headerAllowed, lengthAllowed}
+use Rattle.reading.specs.Chain.{walk}
+use Rattle.reading.specs.Reading.{accepted, every, labelled, reading, refused}
+
+-- "three records, first 3, record 3 (+, feature 1) with next 1, record 1 (−, feature −1) with next 0, record 2 spare, d 1,
+-- linear, S 10, c 100, t 0, budget 50"; the spare record holds bytes that a record on the chain may not
+abbrev header : List ℕ
+header =
+    (3 ∷ 0 ∷ 3 ∷ 0 ∷ 1 ∷ 0 ∷ 0 ∷ 0 ∷ [])
+    ++ (10 ∷ 0 ∷ 0 ∷ 0 ∷ 100 ∷ 0 ∷ 0 ∷ 0 ∷ [])
+    ++ replicate 8 0
+    ++ (50 ∷ 0 ∷ 0 ∷ 0 ∷ 0 ∷ 0 ∷ 0 ∷ 0 ∷ [])
+
+abbrev sample : List ℕ
+sample =
+    header
+    ++ (0 ∷ 0 ∷ 2 ∷ 0 ∷ 255 ∷ replicate 15 0)
+    ++ (200 ∷ 0 ∷ 7 ∷ 1 ∷ replicate 16 200)
+    ++ (1 ∷ 0 ∷ 1 ∷ 0 ∷ 1 ∷ replicate 15 0)
+
+pub sample-read :
+    reading sample
+    ≡ accepted (record { used = 1; kernel = Linear; grid = 10; ceiling = 100; tolerance = 0; budget = 50 }) (3 ∷ 1 ∷ [])
+    (record { label = LookedUp; features = pos 1 ∷ replicate 15 (pos 0) } ∷ record { label = PassedOver; features = negsuc 0 ∷ replicate 15 (pos 0) } ∷ [])
+unfolding reading lengthAllowed headerAllowed parametersAllowed walk every recordAllowed featuresAllowed all labelled
+sample-read = refl
+
+-- cut to 31 bytes; first record 4; record 3 its own next; that and a wrong label; a wrong label; feature 101; one label only;
+-- an empty chain
+pub faults-refused :
+    map reading
+    (take 31 sample ∷ set sample 2 4 ∷ set sample 72 3 ∷ set (set sample 72 3) 74 9 ∷ set sample 74 9 ∷ set sample 76 101 ∷ set sample 34 1 ∷ set sample 2 0 ∷ [])
+    ≡ map refused (1 ∷ 2 ∷ 3 ∷ 3 ∷ 4 ∷ 4 ∷ 5 ∷ 5 ∷ [])
+unfolding reading lengthAllowed headerAllowed parametersAllowed walk every recordAllowed featuresAllowed all labelled
+faults-refused = refl

@@ -1,0 +1,162 @@
+-- Laws of reading: the answer by the stage that gives it. Assumes nothing.
+pub mod Accepted
+use mathlib.Core.Path.{_≡_, refl, sym, ap, ap₂, _∙_, subst}
+use mathlib.Core.Bool.{Bool, true, false, and-false}
+use mathlib.Core.List.{List, [], _∷_, map}
+use mathlib.Core.Option.{some}
+use Prim.Native.Nat.{ℕ, suc, _+_, _≤_}
+use native.Mathlib.Omega.{arith}
+use lib.Dec.{leb, lit≤}
+use lib.ListN.{length}
+use borrow.Author.Tests.{le-leb, lt-leb}
+use Rattle.training_file.specs.declared.parameters.Parameters.{Parameters}
+use Rattle.training_file.specs.declared.item.Label.{Label}
+use Rattle.training_file.specs.declared.item.Label.the-variants.{LookedUp, PassedOver}
+use Rattle.training_file.specs.declared.item.Item.{Item}
+use Rattle.training_file.specs.Layout.{firstRecord, nextOf, recordsStored}
+use Rattle.training_file.specs.Item.{same}
+use Rattle.training_file.specs.Record.{itemAt, recordAllowed}
+use Rattle.reading.specs.Chain.Laws.{walkMet-chain}
+use Rattle.reading.specs.Header.{headerAllowed, lengthAllowed, parametersOf}
+use Rattle.reading.specs.Chain.{Walk, broken, ends, walkMet}
+use Rattle.reading.specs.Reading.{Reading, accepted, bothLabels, chainOf, every, labelled, readChain, reading, refused, unless}
+
+-- ---- the reading by stages
+
+module _ (file : List ℕ) where
+  pub reads-1 : lengthAllowed file ≡ false → reading file ≡ refused 1
+  unfolding reading
+  reads-1 l = rw l
+
+  module _ (l : lengthAllowed file ≡ true) where
+    pub reads-2 : headerAllowed file ≡ false → reading file ≡ refused 2
+    unfolding reading
+    reads-2 h = rw (l, h)
+
+    module _ (h : headerAllowed file ≡ true) where
+      pub reads-3 : chainOf file ≡ broken → reading file ≡ refused 3
+      unfolding reading
+      reads-3 w = rw (l, h) (ap (readChain file) w)
+
+      module _ (rs : List ℕ) (w : chainOf file ≡ ends rs) where
+        reads-chain : reading file ≡ readChain file (ends rs)
+        unfolding reading
+        reads-chain = rw (l, h) (ap (readChain file) w)
+
+        pub reads-4 : every (recordAllowed (parametersOf file .used) file) rs ≡ false → reading file ≡ refused 4
+        reads-4 e = reads-chain ∙ (rw e)
+
+        module _ (e : every (recordAllowed (parametersOf file .used) file) rs ≡ true) where
+          pub reads-5 : bothLabels (map (itemAt file) rs) ≡ false → reading file ≡ refused 5
+          reads-5 b = reads-chain ∙ (rw (e, b))
+
+          pub reads-all : bothLabels (map (itemAt file) rs) ≡ true
+              → reading file ≡ accepted (parametersOf file) rs (map (itemAt file) rs)
+          reads-all b = reads-chain ∙ (rw (e, b))
+
+-- ---- every refusal is one of 1 to 5
+
+abbrev Numbered : Reading → Type 0
+Numbered (refused number) = (1 ≤ number) × (number ≤ 5)
+Numbered (accepted p rs items) = Unit {0}
+
+unless-numbered : (number : ℕ) (test : Bool) (rest : Reading) → 1 ≤ number → number ≤ 5 → Numbered rest → Numbered (unless number test rest)
+unless-numbered number true rest l u h = h
+unless-numbered number false rest l u h = (l, u)
+
+chain-numbered : (file : List ℕ) (w : Walk) → Numbered (readChain file w)
+chain-numbered file broken = (lit≤ tt, lit≤ tt)
+chain-numbered file (ends rs) =
+    let items = map (itemAt file) rs in
+    let read = accepted (parametersOf file) rs items in
+    unless-numbered 4 (every (recordAllowed (parametersOf file .used) file) rs) (unless 5 (bothLabels items) read) (lit≤ tt) (lit≤ tt)
+    (unless-numbered 5 (bothLabels items) read (lit≤ tt) (lit≤ tt) tt)
+
+reading-numbered : (file : List ℕ) → Numbered (reading file)
+unfolding reading
+reading-numbered file =
+    let read = readChain file (chainOf file) in
+    unless-numbered 1 (lengthAllowed file) (unless 2 (headerAllowed file) read) (lit≤ tt) (lit≤ tt)
+    (unless-numbered 2 (headerAllowed file) read (lit≤ tt) (lit≤ tt) (chain-numbered file (chainOf file)))
+
+pub refused-within : (file : List ℕ) (number : ℕ) → reading file ≡ refused number → (1 ≤ number) × (number ≤ 5)
+refused-within file number e = subst Numbered e (reading-numbered file)
+
+-- ---- refusal 3 to the letter
+
+-- the walk that keeps the records met, and is broken by one that it has met, finds the chain of the definition
+pub chain-to-the-letter : (file : List ℕ)
+    → walkMet (nextOf file) (recordsStored file) (suc (recordsStored file)) [] (firstRecord file) ≡ some (chainOf file)
+chain-to-the-letter file = walkMet-chain (nextOf file) (recordsStored file) (suc (recordsStored file)) (firstRecord file) (omega arith)
+
+-- ---- refusal 5 by the number of items looked up
+
+same-sum : (label : Label) → same LookedUp label + same PassedOver label ≡ 1
+same-sum LookedUp = refl
+same-sum PassedOver = refl
+
+pub labels-sum : (items : List Item) → labelled LookedUp items + labelled PassedOver items ≡ length items
+unfolding labelled
+labels-sum [] = refl
+labels-sum (item ∷ items) = let e = labels-sum items in let s = same-sum (item .label) in omega arith
+
+module _ (items : List Item) where
+  pub labels-none : labelled LookedUp items ≡ 0 → bothLabels items ≡ false
+  labels-none e = rw e
+
+  pub labels-all : labelled LookedUp items ≡ length items → bothLabels items ≡ false
+  labels-all e =
+      rw (lt-leb 1 (labelled PassedOver items) (omega (arith, labels-sum items))) (and-false (leb 1 (labelled LookedUp items)))
+
+  pub labels-both : (labelled LookedUp items ≡ 0 → ⊥) → (labelled LookedUp items ≡ length items → ⊥) → bothLabels items ≡ true
+  labels-both z a =
+      rw (le-leb 1 (labelled LookedUp items) (omega arith), le-leb 1 (labelled PassedOver items) (omega (arith, labels-sum items)))
+
+-- ---- what an accepted file has
+
+-- everything that the refusals ask for, with the parameters, the order and the items that follow from the bytes
+pub record AcceptedFile (file : List ℕ) (p : Parameters) (rs : List ℕ) (items : List Item) : Type 0 where
+  pub length-is : lengthAllowed file ≡ true
+  pub header-is : headerAllowed file ≡ true
+  pub chain-is : chainOf file ≡ ends rs
+  pub records-are : every (recordAllowed (p .used) file) rs ≡ true
+  pub labels-are : bothLabels items ≡ true
+  pub parameters-are : p ≡ parametersOf file
+  pub items-are : items ≡ map (itemAt file) rs
+
+module _ (file : List ℕ) (p : Parameters) (rs : List ℕ) (items : List Item) where
+  past-labels : (qs : List ℕ) (e b : Bool)
+      → lengthAllowed file ≡ true → headerAllowed file ≡ true → chainOf file ≡ ends qs
+      → every (recordAllowed (parametersOf file .used) file) qs ≡ e → bothLabels (map (itemAt file) qs) ≡ b
+      → unless 4 e (unless 5 b (accepted (parametersOf file) qs (map (itemAt file) qs))) ≡ accepted p rs items
+      → AcceptedFile file p rs items
+  past-labels qs false b l h w e t q = let z : _≡_ {A = ℕ} 0 1 = cc in absurd (omega arith)
+  past-labels qs true false l h w e t q = let z : _≡_ {A = ℕ} 0 1 = cc in absurd (omega arith)
+  past-labels qs true true l h w e t q =
+      let ep : parametersOf file ≡ p = cc in
+      let er : qs ≡ rs = cc in
+      let ei : map (itemAt file) qs ≡ items = cc in
+      record {
+        length-is = l;
+        header-is = h;
+        chain-is = w ∙ ap ends er;
+        records-are = ap₂ (λ (x : Parameters) (y : List ℕ). every (recordAllowed (x .used) file) y) (sym ep) (sym er) ∙ e;
+        labels-are = ap bothLabels (sym ei) ∙ t;
+        parameters-are = sym ep;
+        items-are = sym ei ∙ ap (map (itemAt file)) er;
+      }
+
+  past-chain : (c : Walk) → lengthAllowed file ≡ true → headerAllowed file ≡ true → chainOf file ≡ c
+      → readChain file c ≡ accepted p rs items → AcceptedFile file p rs items
+  past-chain broken l h w q = let z : _≡_ {A = ℕ} 0 1 = cc in absurd (omega arith)
+  past-chain (ends qs) l h w q = past-labels qs _ _ l h w refl refl q
+
+  past-header : (a b : Bool) → lengthAllowed file ≡ a → headerAllowed file ≡ b
+      → unless 1 a (unless 2 b (readChain file (chainOf file))) ≡ accepted p rs items → AcceptedFile file p rs items
+  past-header false b l h q = let z : _≡_ {A = ℕ} 0 1 = cc in absurd (omega arith)
+  past-header true false l h q = let z : _≡_ {A = ℕ} 0 1 = cc in absurd (omega arith)
+  past-header true true l h q = past-chain (chainOf file) l h refl q
+
+  pub accepted-is : reading file ≡ accepted p rs items → AcceptedFile file p rs items
+  unfolding reading
+  accepted-is q = past-header (lengthAllowed file) (headerAllowed file) refl refl q

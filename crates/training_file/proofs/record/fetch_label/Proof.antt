@@ -1,0 +1,30 @@
+-- `training_file::record::fetch_label` meets its contract: the label's byte is the record's. Assumes nothing.
+use mathlib.Core.Path.{ap, _∙_}
+use Prim.Native.Nat.{ℕ, _+_}
+use borrow.Author.Needs.{needs}
+use Rattle.training_file.specs.Layout.{byteAt}
+use Rattle.training_file.specs.Item.{labelOfByte}
+use Rattle.training_file.proofs.record.fetch_label.Statement.{statement}
+use Rattle.training_file.proofs.record.fetch_label.Tie as tie
+
+start-requires : tie.Need-start-requires
+start-requires c κs = search needs
+
+add-of-judged : tie.Need-add-of-judged
+add-of-judged c = search needs
+
+shared-slice-read-of-judged : tie.Need-shared-slice-read-of-judged
+shared-slice-read-of-judged c = search needs
+
+of-judged-requires : tie.Need-of-judged-requires
+of-judged-requires c κs = search needs
+
+returns : tie.Need-returns
+returns c =
+    c .of-judged .ensures
+    ∙ ap (λ (s : ℕ). labelOfByte (byteAt (c .before .before .before .before .args .file .now) (s + 2))) (c .before .before .start .ensures)
+
+pub fetch-label-spec : {M : Type 1} → statement M
+fetch-label-spec =
+    tie.close
+    (tie.spec start-requires add-of-judged shared-slice-read-of-judged of-judged-requires returns)

@@ -1,0 +1,46 @@
+-- What the judging constructors and the judging of a record answer: the value, or the refusal. `..Refusal` takes the refusal out of an
+-- answer. Assumes nothing.
+use mathlib.Core.Bool.{cond}
+use mathlib.Core.List.{List}
+use Prim.Native.Nat.{ℕ}
+use Rattle.training_file.specs.declared.refusal.Refusal.{Refusal}
+use Rattle.training_file.specs.declared.parameters.KernelAnswer.{KernelAnswer}
+use Rattle.training_file.specs.declared.parameters.KernelAnswer.the-variants as kernel
+use Rattle.training_file.specs.declared.parameters.Parameters.{Parameters}
+use Rattle.training_file.specs.declared.parameters.ParametersAnswer.{ParametersAnswer}
+use Rattle.training_file.specs.declared.parameters.ParametersAnswer.the-variants as parameters
+use Rattle.training_file.specs.declared.item.LabelAnswer.{LabelAnswer}
+use Rattle.training_file.specs.declared.item.LabelAnswer.the-variants as label
+use Rattle.training_file.specs.Refusal.{noRefusal, refusal}
+use Rattle.training_file.specs.Parameters.{kernelAllowed, kernelOfByte, parametersAllowed}
+use Rattle.training_file.specs.Item.{labelAllowed, labelOfByte}
+use Rattle.training_file.specs.Record.{labelAt, recordAllowed}
+
+-- ---- refusal 2: "a header field beyond its range"
+
+abbrev pub kernelAnswer : ℕ → KernelAnswer
+kernelAnswer byte = cond (kernelAllowed byte) (kernel.Known (kernelOfByte byte)) (kernel.Refused (refusal 2))
+
+abbrev pub kernelRefusal : KernelAnswer → Refusal
+kernelRefusal (kernel.Refused why) = why
+kernelRefusal (kernel.Known known) = noRefusal
+
+abbrev pub parametersAnswer : Parameters → ParametersAnswer
+parametersAnswer p = cond (parametersAllowed p) (parameters.Allowed p) (parameters.Refused (refusal 2))
+
+abbrev pub parametersRefusal : ParametersAnswer → Refusal
+parametersRefusal (parameters.Refused why) = why
+parametersRefusal (parameters.Allowed p) = noRefusal
+
+-- ---- refusal 4: "on the chain, a wrong label, .."
+
+abbrev pub labelAnswer : ℕ → LabelAnswer
+labelAnswer byte = cond (labelAllowed byte) (label.Known (labelOfByte byte)) (label.Refused (refusal 4))
+
+abbrev pub labelRefusal : LabelAnswer → Refusal
+labelRefusal (label.Refused why) = why
+labelRefusal (label.Known known) = noRefusal
+
+-- a record's label, where the record is allowed
+abbrev pub recordAnswer : ℕ → List ℕ → ℕ → LabelAnswer
+recordAnswer d file r = cond (recordAllowed d file r) (label.Known (labelAt file r)) (label.Refused (refusal 4))
