@@ -2,7 +2,7 @@
 -- 01's. A position of document 01 counts from 1, a place here from 0. Laws are in Problem/Laws.antt. Assumes nothing.
 pub mod Laws
 use mathlib.Core.Path.{_≡_}
-use mathlib.Core.Bool.{Bool}
+use mathlib.Core.Bool.{Bool, true}
 use mathlib.Core.List.{List}
 use Prim.Native.Nat.{ℕ, _*_, _/_, _≤_, _<_}
 use lib.Dec.{ltb}
@@ -67,6 +67,17 @@ bUp P a = least (P .count) (up P a) (gradient P a)
 abbrev pub bLow : Problem → (ℕ → ℕ) → ℤ
 bLow P a = greatest (P .count) (low P a) (gradient P a)
 
+-- "With both labels present and a feasible, neither set is empty.": each label has an item, of a ceiling of 1 or more
+abbrev pub LabelsPresent : Problem → Type 0
+LabelsPresent P = (label : Label) → (i : ℕ) × (i < P .count) × (P .label i ≡ label) × (1 ≤ P .ceiling i)
+
+-- each threshold is the G of an item of its set, and no G of that set is beyond it
+pub record ThresholdsAttained (P : Problem) (a : ℕ → ℕ) (lower upper : ℤ) : Type 0 where
+  pub lower-attained : (k : ℕ) × (k < P .count) × (low P a k ≡ true) × (lower ≡ gradient P a k)
+  pub lower-greatest : (i : ℕ) → i < P .count → low P a i ≡ true → gradient P a i ≤ℤ lower
+  pub upper-attained : (k : ℕ) × (k < P .count) × (up P a k ≡ true) × (upper ≡ gradient P a k)
+  pub upper-least : (i : ℕ) → i < P .count → up P a i ≡ true → upper ≤ℤ gradient P a i
+
 -- the sum over i, j of v_i × v_j × y_i × y_j × K_ij
 unfoldable pub doubleSum : Problem → (ℕ → ℕ) → ℤ
 doubleSum P v = sum (P .count) (λ i. sum (P .count) (λ j. pos (v i) *ℤ pos (v j) *ℤ y P i *ℤ y P j *ℤ P .kernel i j))
@@ -102,11 +113,13 @@ unfoldable pub WithinDistance : ℕ → Problem → (ℕ → ℕ) → Type 0
 WithinDistance distance P a =
     (m : ℕ) → 1 ≤ m → (v : ℕ → ℕ) → Finer P m v → (pos (m * m) *ℤ objective P a) ≤ℤ (finerObjective P m v +ℤ pos (m * m) *ℤ pos distance)
 
--- Demand 3 of multipliers a with their thresholds, where no ceiling is above c: they are feasible, and no others beat them by more than
--- the bound
+-- Demand 3 of multipliers a with the thresholds answered, where no ceiling is above c: they are feasible, the thresholds are attained, and
+-- no feasible multipliers, of this grid or of a finer one, have an objective below theirs minus the bound
 pub record BoundedDistance (P : Problem) (c : ℕ) (lower upper : ℤ) (a : ℕ → ℕ) : Type 0 where
   pub feasible : Feasible P a
-  pub distance : WithinDistance (bound (gap lower upper) c (P .count)) P a
+  pub thresholds : ThresholdsAttained P a lower upper
+  pub this-grid : (v : ℕ → ℕ) → Feasible P v → objective P a ≤ℤ (objective P v +ℤ pos (bound (gap lower upper) c (P .count)))
+  pub finer-grids : WithinDistance (bound (gap lower upper) c (P .count)) P a
 
 -- ---- the problem of a training file
 

@@ -12,7 +12,7 @@ ghost use Rattle.dual_problem.specs.Size.{gradientMost, kernelMost, term
 ghost use Rattle.dual_problem.specs.Problem.{gradient as gradientOf, sign};
 ghost use Rattle.dual_problem.specs.Items.{MultipliersListed, added, at, problemOf, weighedWith};
 use super::kernel::kernel_value;
-use super::sign::with_sign;
+use super::label::with_sign;
 use reading::reader::fetch;
 use training_file::item::Item;
 use training_file::item::Label;

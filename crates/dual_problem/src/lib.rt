@@ -1,9 +1,6 @@
-// The dual problem of document 01: kernel values, G, the up and the low set, the two thresholds, judged multipliers; and certifying,
-// which needs no more. It may use `integers`, `training_file` and `reading`.
+// The dual problem of document 01, "Grid definitions": kernel values and G. Its definitions and laws are in specs/, with the bound on the
+// distance. It may use `integers`, `training_file` and `reading`.
 
-pub mod certify;
 pub mod gradient;
 pub mod kernel;
-pub mod multipliers;
-pub mod sign;
-pub mod thresholds;
+pub mod label;

@@ -1,5 +1,2 @@
--- The program's listing (document 01, last part of "Settled examples") as a list of bytes, and what it is to put bytes into a lent buffer.
--- Assumes nothing.
-pub mod Decimal
+-- The program's listing (document 01, last part of "Settled examples") as a list of bytes. Laws are in Listing/Laws.antt. Assumes nothing.
 pub mod Listing
-pub mod Put

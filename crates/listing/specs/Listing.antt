@@ -23,7 +23,7 @@ use Rattle.smo.specs.declared.train.Training.{Training}
 use Rattle.smo.specs.declared.train.Training.the-variants.{Refused, Ended}
 use Rattle.smo.specs.Run.{training}
 use Rattle.smo.specs.Answer.{trainedOf}
-use Rattle.listing.specs.Decimal.{decimal, signedDecimal}
+use Rattle.text.specs.Decimal.{decimal, signedDecimal}
 
 -- `converged`, `stuck`, `spent`
 abbrev pub endingText : Ending → List ℕ

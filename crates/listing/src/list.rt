@@ -7,7 +7,7 @@ ghost use lib.ListN.{length, drop};
 ghost use Rattle.reading.specs.Reading.{reading};
 ghost use Rattle.reading.specs.Calls.{itemsIn};
 ghost use Rattle.listing.specs.Listing.{itemCount, listingIn, listingOf};
-ghost use Rattle.listing.specs.Put.{Put, Room};
+ghost use Rattle.text.specs.Put.{Put, Room};
 use super::lines::put_items;
 use super::lines::put_refusal;
 use super::lines::put_result;

@@ -17,19 +17,19 @@ use Rattle.training_file.specs.Layout.{featureCount}
 use Rattle.training_file.specs.Item.{featureAllowed}
 use Rattle.reading.specs.Calls.{itemIn}
 use Rattle.reading.specs.Reading.{Reading, refused, accepted, reading}
-use Rattle.dual_problem.specs.declared.multipliers.Judgement.{Judgement}
-use Rattle.dual_problem.specs.declared.multipliers.Judgement.the-variants as judged
-use Rattle.dual_problem.specs.declared.certify.Thresholds.{Thresholds}
 use Rattle.dual_problem.specs.Size.{gradientMost}
 use Rattle.dual_problem.specs.Kernel.{kernelValue}
 use Rattle.dual_problem.specs.Problem.{problem}
 use Rattle.dual_problem.specs.Items.{MultipliersListed, at, weighedSum}
-use Rattle.dual_problem.specs.Multipliers.{judgement}
-use Rattle.dual_problem.specs.Certify.{thresholdsOf}
 use Rattle.lookahead.specs.declared.classify.Class.{Class}
 use Rattle.lookahead.specs.declared.classify.Class.the-variants.{LookedUp, PassedOver}
 use Rattle.lookahead.specs.declared.classify.Classified.{Classified}
 use Rattle.lookahead.specs.declared.classify.Classified.the-variants.{Refused, Is}
+use Rattle.certifying.specs.declared.multipliers.Judgement.{Judgement}
+use Rattle.certifying.specs.declared.multipliers.Judgement.the-variants as judged
+use Rattle.certifying.specs.declared.certify.Thresholds.{Thresholds}
+use Rattle.certifying.specs.Multipliers.{judgement}
+use Rattle.certifying.specs.Certify.{thresholdsOf}
 
 -- "K of item i and the word"
 abbrev pub wordKernel : Parameters → List Item → List ℤ → ℕ → ℤ

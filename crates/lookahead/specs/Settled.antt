@@ -16,11 +16,8 @@ use Rattle.training_file.specs.Record.{recordAllowed}
 use Rattle.reading.specs.Header.{headerAllowed, lengthAllowed}
 use Rattle.reading.specs.Chain.{walk}
 use Rattle.reading.specs.Reading.{Reading, refused, accepted, every, labelled, reading}
-use Rattle.dual_problem.specs.declared.certify.Certified.{Certified}
-use Rattle.dual_problem.specs.declared.certify.Certified.the-variants as certified
 use Rattle.dual_problem.specs.Problem.{gradient, doubleSum, objective}
 use Rattle.dual_problem.specs.Items.{at}
-use Rattle.dual_problem.specs.Certify.{certifying}
 use Rattle.smo_step.specs.Step.{amount, firstCandidate, workingPair}
 use Rattle.smo.specs.declared.ending.Ending.{Ending}
 use Rattle.smo.specs.declared.ending.Ending.the-variants.{Converged, Stuck, Spent}
@@ -31,6 +28,9 @@ use Rattle.lookahead.specs.declared.classify.Class.the-variants.{LookedU
 use Rattle.lookahead.specs.declared.classify.Classified.{Classified}
 use Rattle.lookahead.specs.declared.classify.Classified.the-variants.{Is}
 use Rattle.lookahead.specs.Classify.{classifying, score, scoreWith}
+use Rattle.certifying.specs.declared.certify.Certified.{Certified}
+use Rattle.certifying.specs.declared.certify.Certified.the-variants as certified
+use Rattle.certifying.specs.Certify.{certifying}
 
 -- ---- the files, byte for byte: d 1; kernel, S, c, t, budget (each below 256); records chained in their order, by label and feature byte
 abbrev header : (m kernel S c t budget : ℕ) → List ℕ

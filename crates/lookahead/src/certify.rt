@@ -2,9 +2,9 @@
 
 ghost use mathlib.Core.Path.{_≡_};
 ghost use Rattle.reading.specs.Reading.{reading};
-ghost use Rattle.dual_problem.specs.Certify.{CertifiedDistance, certifying};
-use dual_problem::certify;
-use dual_problem::certify::Certified;
+ghost use Rattle.certifying.specs.Certify.{CertifiedDistance, certifying};
+use certifying::certify;
+use certifying::certify::Certified;
 
 // Both thresholds of any multipliers of any file, or the refusal. From the thresholds follows how far the multipliers can be from
 // the best ones, which the second clause says.

@@ -8,10 +8,10 @@ pub mod train;
 mod word;
 
 // The types of the answers, by the name of this library.
+pub use certifying::certify::Certified;
+pub use certifying::certify::Thresholds;
 pub use classify::Class;
 pub use classify::Classified;
-pub use dual_problem::certify::Certified;
-pub use dual_problem::certify::Thresholds;
 pub use reading::reader::FileAnswer;
 pub use smo::ending::Ending;
 pub use smo::run::Trained;

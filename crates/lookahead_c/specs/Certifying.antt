@@ -1,8 +1,8 @@
 -- What a call for certifying answers in C, by what the library answers. Assumes nothing.
 use Prim.Native.Nat.{ℕ}
-use Rattle.dual_problem.specs.declared.certify.Certified.{Certified}
-use Rattle.dual_problem.specs.declared.certify.Certified.the-variants.{Refused, Found}
-use Rattle.dual_problem.specs.declared.certify.Thresholds.{Thresholds}
+use Rattle.certifying.specs.declared.certify.Certified.{Certified}
+use Rattle.certifying.specs.declared.certify.Certified.the-variants.{Refused, Found}
+use Rattle.certifying.specs.declared.certify.Thresholds.{Thresholds}
 
 -- 0, or the refusal's number
 abbrev pub certifyNumber : Certified → ℕ

@@ -2,12 +2,12 @@
 -- by the number alone a caller in C tells a refusal from an answer, is in Refusals/Laws.antt. Assumes nothing.
 pub mod Laws
 use Prim.Native.Nat.{_≤_}
-use Rattle.dual_problem.specs.declared.certify.Certified.{Certified}
-use Rattle.dual_problem.specs.declared.certify.Certified.the-variants as certified
 use Rattle.smo.specs.declared.train.Training.{Training}
 use Rattle.smo.specs.declared.train.Training.the-variants as training
 use Rattle.lookahead.specs.declared.classify.Classified.{Classified}
 use Rattle.lookahead.specs.declared.classify.Classified.the-variants as classified
+use Rattle.certifying.specs.declared.certify.Certified.{Certified}
+use Rattle.certifying.specs.declared.certify.Certified.the-variants as certified
 
 -- training: 1 to 6
 abbrev pub TrainRefusals : Training → Type 0

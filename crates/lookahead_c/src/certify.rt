@@ -1,8 +1,8 @@
 // Certifying, for C.
 
 ghost use mathlib.Core.Path.{_≡_};
-ghost use Rattle.dual_problem.specs.Certify.{certifying};
 ghost use Rattle.lookahead_c.specs.Certifying.{certifySeen};
+ghost use Rattle.certifying.specs.Certify.{certifying};
 use lookahead::Certified;
 
 // Both thresholds are written, or neither: a refusal leaves them as they were.

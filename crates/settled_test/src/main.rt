@@ -1,7 +1,12 @@
-// Runs document 01's settled examples P1 to P12 through the library, one line each. That the definitions give these results is the
-// theorem `settled`; this shows the compiled code give them.
+// Runs the cases of its input through the library, a line each. They are document 01's settled examples P1 to P12, and the lines the
+// results settled there (tools/settled_cases.py). That the definitions give these results is the theorem `settled`; this shows the
+// compiled code give them.
 
-ghost use Prim.Native.Nat.{_<_};
+ghost use mathlib.Core.Path.{_≡_};
+ghost use Prim.Native.Nat.{_+_, _≤_};
+ghost use lib.ListN.{length};
+use libc::STDIN_FILENO;
+use libc::STDOUT_FILENO;
 use lookahead::Certified;
 use lookahead::Class;
 use lookahead::Classified;
@@ -9,199 +14,159 @@ use lookahead::Ending;
 use lookahead::Refusal;
 use lookahead::Trained;
 use lookahead::Training;
+use text::number::put_signed;
+use training_file::bytes::signed_byte;
+use training_file::bytes::u16_at;
+use training_file::bytes::u32_at;
 
-// Two records, and three.
-const TWO: usize = 72;
+// More cases than there are.
+const MOST: usize = 100;
 
-const THREE: usize = 92;
+// The bytes of a case, and where its parts are: a name and a file, each after its length; three multipliers; a feature.
+const CASE: usize = 113;
 
-fn set(file: &mut [u8], at: usize, value: u8) {
-    if at < file.len() {
-        file[at] = value;
-    }
-}
+const NAME: usize = 0;
 
-// d 1, t 0, budget 50, the first record first; each number is below 256.
-fn set_header(file: &mut [u8], records: u8, kernel: u8, s: u8, c: u8) {
-    set(file, 0, records);
-    set(file, 2, 1);
-    set(file, 4, 1);
-    set(file, 5, kernel);
-    set(file, 8, s);
-    set(file, 12, c);
-    set(file, 16, 0);
-    set(file, 24, 50);
-}
+const KIND: usize = 5;
 
-// A record by its next number, label and feature byte.
-fn set_record(file: &mut [u8], number: usize, next: u8, label: u8, feature: u8)
-    requires { ⌜ number < 4 ⌝ }
-{
-    let at = 12 + 20 * number;
-    set(file, at, next);
-    set(file, at + 2, label);
-    set(file, at + 4, feature);
-}
+const FILE: usize = 6;
 
-// The file of two records with features 1 and -1, whose byte is 255.
-fn set_plus_minus(file: &mut [u8], kernel: u8, s: u8, c: u8) {
-    set_header(file, 2, kernel, s, c);
-    set_record(file, 1, 2, 1, 1);
-    set_record(file, 2, 0, 2, 255);
-}
+const FIRST: usize = 100;
 
-// The thresholds are compared with those of document 01, as there is no printing of signed numbers here.
-fn show_thresholds(lower: i64, upper: i64, settled_lower: i64, settled_upper: i64) {
-    if lower == settled_lower && upper == settled_upper {
-        io::write_all(1, b"thresholds as settled");
-    } else {
-        io::write_all(1, b"other thresholds");
-    }
+const SECOND: usize = 104;
+
+const THIRD: usize = 108;
+
+const FEATURE: usize = 112;
+
+// The kinds of a case. Any other kind classifies.
+const TRAIN: u8 = 0;
+
+const CERTIFY: u8 = 1;
+
+// A space and a number, of which the longest has a sign and 20 digits.
+fn show_number(number: i64) {
+    let mut line = [b' '; 22];
+    let end = put_signed(&mut line, 1, number);
+    io::write_all(STDOUT_FILENO, &line[..end]);
 }
 
 fn show_refusal(refusal: Refusal) {
-    io::write_all(1, b"refused ");
-    io::print_decimal(1, refusal.number as u64);
+    io::write_all(STDOUT_FILENO, b" refused");
+    show_number(refusal.number as i64);
 }
 
-fn show_trained(trained: Trained, lower: i64, upper: i64) {
+fn show_thresholds(lower: i64, upper: i64) {
+    io::write_all(STDOUT_FILENO, b" thresholds");
+    show_number(lower);
+    show_number(upper);
+}
+
+fn show_trained(trained: Trained) {
     // The checker covers a match on a local, not on a field.
     let ending = trained.ending;
     match ending {
         Ending::Converged => {
-            io::write_all(1, b"converged ");
+            io::write_all(STDOUT_FILENO, b" converged");
         }
         Ending::Stuck => {
-            io::write_all(1, b"stuck ");
+            io::write_all(STDOUT_FILENO, b" stuck");
         }
         Ending::Spent => {
-            io::write_all(1, b"spent ");
+            io::write_all(STDOUT_FILENO, b" spent");
         }
     }
-    io::print_decimal(1, trained.steps as u64);
-    io::write_all(1, b", ");
-    show_thresholds(trained.lower, trained.upper, lower, upper);
+    show_number(trained.steps as i64);
+    io::write_all(STDOUT_FILENO, b",");
+    show_thresholds(trained.lower, trained.upper);
 }
 
-fn show_training(training: Training, lower: i64, upper: i64) {
-    match training {
+fn show_multiplier(multiplier: u32) {
+    show_number(multiplier as i64);
+}
+
+// Three places are lent, also where there are two items: what training leaves alone shows.
+fn train(file: &[u8], mut multipliers: [u32; 3]) {
+    let mut gradient = [9i64; 3];
+    match lookahead::train::train(file, &mut multipliers, &mut gradient) {
         Training::Refused(refusal) => {
             show_refusal(refusal);
         }
         Training::Ended(trained) => {
-            show_trained(trained, lower, upper);
+            show_trained(trained);
         }
     }
-}
-
-fn show_multiplier(multiplier: u32) {
-    io::write_all(1, b" ");
-    io::print_decimal(1, multiplier as u64);
-}
-
-// The multipliers lent are three 9s, so that what training leaves alone shows.
-fn train(name: &[u8], file: &[u8], lower: i64, upper: i64) {
-    let mut multipliers = [9u32; 3];
-    let mut gradient = [9i64; 3];
-    io::write_all(1, name);
-    let training = lookahead::train::train(file, &mut multipliers, &mut gradient);
-    show_training(training, lower, upper);
-    io::write_all(1, b", multipliers");
+    io::write_all(STDOUT_FILENO, b", multipliers");
     show_multiplier(multipliers[0]);
     show_multiplier(multipliers[1]);
     show_multiplier(multipliers[2]);
-    io::write_all(1, b"\n");
 }
 
-fn certify(name: &[u8], file: &[u8], multipliers: &[u32], lower: i64, upper: i64) {
-    io::write_all(1, name);
+fn certify(file: &[u8], multipliers: &[u32]) {
     match lookahead::certify::certify(file, multipliers) {
         Certified::Refused(refusal) => {
             show_refusal(refusal);
         }
         Certified::Found(thresholds) => {
-            show_thresholds(thresholds.lower, thresholds.upper, lower, upper);
-        }
-    }
-    io::write_all(1, b"\n");
-}
-
-fn show_class(class: Class) {
-    match class {
-        Class::LookedUp => {
-            io::write_all(1, b"looked up");
-        }
-        Class::PassedOver => {
-            io::write_all(1, b"passed over");
+            show_thresholds(thresholds.lower, thresholds.upper);
         }
     }
 }
 
-fn classify(name: &[u8], file: &[u8], multipliers: &[u32], word: &[i8]) {
-    io::write_all(1, name);
+fn classify(file: &[u8], multipliers: &[u32], word: &[i8]) {
     match lookahead::classify::classify(file, multipliers, word) {
         Classified::Refused(refusal) => {
             show_refusal(refusal);
         }
-        Classified::Is(class) => {
-            show_class(class);
-        }
+        Classified::Is(class) => match class {
+            Class::LookedUp => {
+                io::write_all(STDOUT_FILENO, b" looked up");
+            }
+            Class::PassedOver => {
+                io::write_all(STDOUT_FILENO, b" passed over");
+            }
+        },
     }
-    io::write_all(1, b"\n");
 }
 
-fn p1_to_p4(file: &mut [u8]) {
-    set_plus_minus(file, 0, 10, 100);
-    train(b"P1 ", file, 0, 0);
-    set_plus_minus(file, 0, 10, 3);
-    train(b"P2 ", file, -4, 4);
-    set_plus_minus(file, 0, 1, 10);
-    train(b"P3 ", file, 1, -1);
-    set(file, 16, 1);
-    train(b"P4 ", file, 1, -1);
+// The bytes that come after their length, none where the case hasn't so many.
+fn part(case: &[u8], at: usize) -> &[u8]
+    requires { ⌜ at + 2 ≤ length (now case) ⌝ }
+{
+    let from = at + 2;
+    let to = from + u16_at(case, at) as usize;
+    if case.len() < to {
+        return &case[0..0];
+    }
+    &case[from..to]
 }
 
-fn p5_and_p6(file: &mut [u8]) {
-    set_plus_minus(file, 0, 1, 10);
-    set(file, 24, 0);
-    train(b"P5 ", file, 1, -1);
-    set_plus_minus(file, 0, 10, 100);
-    set(file, 24, 0);
-    train(b"P6 ", file, 10, -10);
-}
-
-fn p7_and_p8(file: &mut [u8]) {
-    set_plus_minus(file, 0, 10, 7);
-    set_record(file, 2, 0, 2, 1);
-    train(b"P7 ", file, -10, 10);
-    set_plus_minus(file, 1, 16, 100);
-    train(b"P8 ", file, 0, 0);
-}
-
-// Features 10, -10 and 10.
-fn p9(file: &mut [u8]) {
-    set_header(file, 3, 0, 1, 2);
-    set_record(file, 1, 2, 1, 10);
-    set_record(file, 2, 3, 2, 246);
-    set_record(file, 3, 0, 2, 10);
-    train(b"P9 ", file, 1, 1);
-}
-
-fn p10_to_p12(file: &mut [u8]) {
-    set_plus_minus(file, 0, 10, 100);
-    certify(b"P10 ", file, &[0, 0], 10, -10);
-    certify(b"P11 ", file, &[5, 4], 0, 0);
-    certify(b"P11 ", file, &[101, 100], 0, 0);
-    classify(b"P12 ", file, &[5, 5], &[3]);
-    classify(b"P12 ", file, &[5, 5], &[0]);
+fn show_case(case: &[u8])
+    requires { ⌜ length (now case) ≡ 113 ⌝ }
+{
+    io::write_all(STDOUT_FILENO, part(case, NAME));
+    let file = part(case, FILE);
+    let first = u32_at(case, FIRST);
+    let second = u32_at(case, SECOND);
+    let kind = case[KIND];
+    if kind == TRAIN {
+        train(file, [first, second, u32_at(case, THIRD)]);
+    } else if kind == CERTIFY {
+        certify(file, &[first, second]);
+    } else {
+        classify(file, &[first, second], &[signed_byte(case[FEATURE])]);
+    }
+    io::write_all(STDOUT_FILENO, b"\n");
 }
 
 fn main() {
-    let mut two = [0u8; TWO];
-    let mut three = [0u8; THREE];
-    p1_to_p4(&mut two);
-    p5_and_p6(&mut two);
-    p7_and_p8(&mut two);
-    p9(&mut three);
-    p10_to_p12(&mut two);
+    let mut shown = 0;
+    while shown < MOST {
+        let mut case = [0u8; CASE];
+        if io::read_full(STDIN_FILENO, &mut case) < CASE {
+            return;
+        }
+        show_case(&case);
+        shown += 1;
+    }
 }

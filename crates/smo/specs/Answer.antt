@@ -8,10 +8,8 @@ use lib.IntN.{ℤ, pos, _+ℤ_}
 use lib.Signed.{leZ}
 use Rattle.integers.specs.Written.{written}
 use Rattle.training_file.specs.declared.parameters.Parameters.{Parameters}
-use Rattle.dual_problem.specs.declared.thresholds.Extremes.{Extremes}
 use Rattle.dual_problem.specs.Problem.{Problem, bUp, bLow, gradient}
 use Rattle.dual_problem.specs.Items.{at, problemOf}
-use Rattle.dual_problem.specs.Thresholds.{bestValue}
 use Rattle.smo_step.specs.declared.pair.Pair.{Pair}
 use Rattle.smo_step.specs.declared.pair.Pair.the-variants as pair
 use Rattle.smo_step.specs.Step.{workingPair}
@@ -22,6 +20,8 @@ use Rattle.smo.specs.declared.run.Decision.{Decision}
 use Rattle.smo.specs.declared.run.Decision.the-variants.{Ends, Moves}
 use Rattle.smo.specs.declared.run.Trained.{Trained}
 use Rattle.smo.specs.Run.{Outcome, run, training}
+use Rattle.certifying.specs.declared.thresholds.Extremes.{Extremes}
+use Rattle.certifying.specs.Thresholds.{bestValue}
 
 -- "1. if b_low ≤ b_up + 2 × t, the ending is converged; 2. if no pair moves, it is stuck"; else the working pair moves
 abbrev pub decided : Bool → Pair → Decision

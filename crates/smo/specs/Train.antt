@@ -62,8 +62,8 @@ trainFile file a g = trainRead (reading file) a g
 pub record ResultQuality (p : Parameters) (P : Problem) (result : Trained) (a : List ℕ) : Type 0 where
   pub bounded : BoundedDistance P (p .ceiling) (result .lower) (result .upper) (at a)
   pub in-budget : result .steps ≤ p .budget
-  pub means : Means P (p .tolerance) (p .budget) (result .steps) a (result .ending)
-  pub stuck-exactly : (result .ending ≡ Stuck) ↔ (GapPasses P (p .tolerance) a × NoMoveLowers P (at a))
+  pub means : Means P (p .tolerance) (p .budget) (result .steps) (result .lower) (result .upper) a (result .ending)
+  pub stuck-exactly : (result .ending ≡ Stuck) ↔ (GapPasses (p .tolerance) (result .lower) (result .upper) × NoMoveLowers P (at a))
 
 -- the same of the answer to any file, and of the lent list as training leaves it
 abbrev pub TrainingQuality : Reading → Training → List ℕ → Type 0

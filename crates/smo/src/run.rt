@@ -4,12 +4,12 @@
 ghost use mathlib.Core.Path.{_≡_};
 ghost use Rattle.training_file.specs.Parameters.{Ranges};
 ghost use Rattle.dual_problem.specs.Items.{problemOf};
-ghost use Rattle.dual_problem.specs.Thresholds.{extremesIn};
 ghost use Rattle.smo_step.specs.State.{State};
 ghost use Rattle.smo.specs.Answer.{decision, decisionEnding, runFrom, trainedWith};
+ghost use Rattle.certifying.specs.Thresholds.{extremesIn};
 use super::ending::Ending;
-use dual_problem::thresholds::Extremes;
-use dual_problem::thresholds::find_extremes;
+use certifying::thresholds::Extremes;
+use certifying::thresholds::find_extremes;
 use smo_step::pair::Pair;
 use smo_step::pair::working_pair;
 use smo_step::step::take_step;

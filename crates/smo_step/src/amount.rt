@@ -10,7 +10,7 @@ ghost use Rattle.dual_problem.specs.Problem.{ceilingOf};
 ghost use Rattle.smo_step.specs.Step.{rise};
 ghost use Rattle.smo_step.specs.Division.{PairGiven, amountBetween, divided, roomBetween};
 use super::curvature::curvature;
-use dual_problem::multipliers::ceiling;
+use dual_problem::label::ceiling;
 use training_file::item::Item;
 use training_file::item::Label;
 use training_file::parameters::Parameters;

@@ -4,14 +4,14 @@ ghost use mathlib.Core.Path.{_≡_};
 ghost use Prim.Native.Nat.{_<_};
 ghost use Rattle.dual_problem.specs.Problem.{up, low};
 ghost use Rattle.dual_problem.specs.Items.{problemOf};
-ghost use Rattle.dual_problem.specs.Thresholds.{extremesIn};
 ghost use Rattle.smo_step.specs.Step.{firstCandidate, workingPair};
 ghost use Rattle.smo_step.specs.State.{State};
 ghost use Rattle.smo_step.specs.Pair.{SomePairState, TellsMoves, firstPartner, pairOf, partnerOf};
+ghost use Rattle.certifying.specs.Thresholds.{extremesIn};
 use super::curvature::curvature;
-use dual_problem::thresholds::Best;
-use dual_problem::thresholds::Extremes;
-use dual_problem::thresholds::sets_at;
+use certifying::thresholds::Best;
+use certifying::thresholds::Extremes;
+use certifying::thresholds::sets_at;
 use reading::reader::fetch;
 use training_file::parameters::Parameters;
 

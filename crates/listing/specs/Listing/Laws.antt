@@ -23,7 +23,7 @@ use Rattle.reading.specs.Reading.Laws.Accepted.{accepted-ranges, items-counted,
 use Rattle.dual_problem.specs.Problem.{problem}
 use Rattle.dual_problem.specs.Problem.Laws.{problem-gram}
 use Rattle.dual_problem.specs.Items.{Listed, at}
-use Rattle.dual_problem.specs.Items.Laws.Read.{Read, read-listed}
+use Rattle.dual_problem.specs.Items.Laws.Read.{Read, labels-present, read-listed}
 use Rattle.smo.specs.declared.ending.Ending.{Ending}
 use Rattle.smo.specs.declared.ending.Ending.the-variants.{Converged, Stuck, Spent}
 use Rattle.smo.specs.declared.run.Trained.{Trained}
@@ -31,9 +31,9 @@ use Rattle.smo.specs.Run.{training}
 use Rattle.smo.specs.Run.Laws.{training-sound}
 use Rattle.smo.specs.Answer.{trainedOf}
 use Rattle.smo.specs.Train.{endedWith, unchanged, trainRead}
-use Rattle.listing.specs.Decimal.{decimal}
-use Rattle.listing.specs.Decimal.Laws.{decimal-few, decimal-length, signed-length}
 use Rattle.listing.specs.Listing.{endingText, itemCount, itemLine, joined, labelSign, lineAt, listing, listingOf, resultLine}
+use Rattle.text.specs.Decimal.{decimal}
+use Rattle.text.specs.Decimal.Laws.{decimal-few, decimal-length, signed-length}
 
 -- ---- texts one after the other
 pub joined-cong : (n : ℕ) (f g : ℕ → List ℕ) → ((i : ℕ) → i < n → f i ≡ g i) → joined n f ≡ joined n g
@@ -118,7 +118,7 @@ listing-fits file = by (reading file) refl
         let a = accepted-is file p order items e in
         let P = problem p items in
         let o = training P (p .tolerance) (p .budget) in
-        let sound = training-sound P (problem-gram p items) (p .tolerance) (p .budget) (p .ceiling) (λ i l. le-refl (p .ceiling)) in
+        let sound = training-sound P (problem-gram p items) (labels-present file p order items e) (p .tolerance) (p .budget) (p .ceiling) (λ i l. le-refl (p .ceiling)) in
         let line : (i : ℕ) → i < length items → length (lineAt order items (at (o .multipliers)) i) ≤ 14 =
         λ i l. item-length (getD order i 0) (itemIn items i .label) (at (o .multipliers) i)
         (omega (arith, numbers-within file p order items a i (omega (arith, items-counted file p order items a)) .1))

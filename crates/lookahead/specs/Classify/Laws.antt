@@ -14,18 +14,18 @@ use Rattle.training_file.specs.Refusal.{refusal}
 use Rattle.reading.specs.declared.reader.FileAnswer.the-variants as file-answer
 use Rattle.reading.specs.Reading.{Reading, refused, accepted, reading}
 use Rattle.reading.specs.Calls.{itemIn, itemsIn, fileAnswer}
-use Rattle.dual_problem.specs.declared.multipliers.Judgement.{Judgement}
-use Rattle.dual_problem.specs.declared.multipliers.Judgement.the-variants as judged
 use Rattle.dual_problem.specs.Kernel.{kernelValue}
 use Rattle.dual_problem.specs.Kernel.Laws.{kernelValue-comm, kernelValue-cong}
 use Rattle.dual_problem.specs.Problem.{problem}
 use Rattle.dual_problem.specs.Items.{at}
 use Rattle.dual_problem.specs.Items.Laws.Read.{Read}
-use Rattle.dual_problem.specs.Multipliers.{balance, isZero, judgement, withinCeilings}
-use Rattle.dual_problem.specs.Multipliers.Laws.{verdict}
 use Rattle.lookahead.specs.declared.classify.Classified.{Classified}
 use Rattle.lookahead.specs.declared.classify.Classified.the-variants.{Refused, Is}
 use Rattle.lookahead.specs.Classify.{SameFeatures, classOf, classifyItems, classifyJudged, classifyRead, classifying, score, wordAllowed, wordKernel}
+use Rattle.certifying.specs.declared.multipliers.Judgement.{Judgement}
+use Rattle.certifying.specs.declared.multipliers.Judgement.the-variants as judged
+use Rattle.certifying.specs.Multipliers.{balance, isZero, judgement, withinCeilings}
+use Rattle.certifying.specs.Multipliers.Laws.{verdict}
 
 -- ---- the kernel
 -- a list with the word's features, compared with an item, gives K of the item and the word

@@ -11,18 +11,18 @@ use Rattle.training_file.specs.declared.parameters.Parameters.{Parameters}
 use Rattle.training_file.specs.declared.item.Item.{Item}
 use Rattle.reading.specs.Reading.{Reading, refused, accepted, reading}
 use Rattle.reading.specs.Reading.Laws.{refused-within}
-use Rattle.dual_problem.specs.declared.certify.Certified.the-variants as certified
-use Rattle.dual_problem.specs.declared.multipliers.Judgement.{Judgement}
-use Rattle.dual_problem.specs.declared.multipliers.Judgement.the-variants as judged
 use Rattle.dual_problem.specs.Problem.{Problem, problem}
 use Rattle.dual_problem.specs.Items.{at}
-use Rattle.dual_problem.specs.Multipliers.{balance, isZero, judgement, withinCeilings}
-use Rattle.dual_problem.specs.Certify.{certifying, certifyJudged, certifyRead}
 use Rattle.smo.specs.declared.train.Training.the-variants as training
 use Rattle.smo.specs.Train.{TrainingLeft, trainFile, trainRead}
 use Rattle.lookahead.specs.declared.classify.Classified.the-variants as classified
 use Rattle.lookahead.specs.Classify.{classifying, classifyItems, classifyJudged, classifyRead, wordAllowed}
 use Rattle.lookahead_c.specs.Refusals.{CertifyRefusals, ClassifyRefusals, TrainRefusals}
+use Rattle.certifying.specs.declared.certify.Certified.the-variants as certified
+use Rattle.certifying.specs.declared.multipliers.Judgement.{Judgement}
+use Rattle.certifying.specs.declared.multipliers.Judgement.the-variants as judged
+use Rattle.certifying.specs.Multipliers.{balance, isZero, judgement, withinCeilings}
+use Rattle.certifying.specs.Certify.{certifying, certifyJudged, certifyRead}
 
 -- what holds of both values holds of the one that a test picks
 picked : {A : Type 0} (Q : A → Type 0) (test : Bool) {x y : A} → Q x → Q y → Q (cond test x y)

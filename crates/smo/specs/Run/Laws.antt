@@ -16,8 +16,8 @@ use Rattle.integers.specs.Linear.{integer, -ℤ-parts, +ℤ-parts}
 use Rattle.integers.specs.Order.{leZ-true, leZ-false}
 use Rattle.integers.specs.Sum.Laws.{sum-zero}
 use Rattle.integers.specs.Gram.{Gram}
-use Rattle.dual_problem.specs.Problem.{Problem, Feasible, y, bUp, bLow, objective, gap, bound, notBelowZero, WithinDistance}
-use Rattle.dual_problem.specs.Problem.Laws.Distance.{distance-bound}
+use Rattle.dual_problem.specs.Problem.{BoundedDistance, LabelsPresent, Problem, Feasible, y, bUp, bLow, objective, gap, notBelowZero}
+use Rattle.dual_problem.specs.Problem.Laws.Distance.{bounded-distance}
 use Rattle.dual_problem.specs.Items.{at}
 use Rattle.smo_step.specs.Step.{Candidate, amount, moved, workingPair}
 use Rattle.smo_step.specs.Step.Laws.{moved-length, moved-feasible, moves-apart, candidate-moves}
@@ -28,7 +28,7 @@ use Rattle.smo_step.specs.Move.Laws.Stuck.{candidate-lowers, stuck-exactly}
 use Rattle.smo.specs.declared.ending.Ending.{Ending}
 use Rattle.smo.specs.declared.ending.Ending.the-variants.{Converged, Stuck, Spent}
 use Rattle.smo.specs.Run.{Next, ends, goesOn, next, Outcome, oneStepMore, run, training}
-use Rattle.smo.specs.Run.Meaning.{GapPasses, Means, Sound, Steps, noStep, step, moreSteps}
+use Rattle.smo.specs.Run.Meaning.{GapPasses, OutcomeGapPasses, OutcomeMeans, Sound, Steps, noStep, step, moreSteps}
 
 -- ---- no two endings are one
 stuck-converged : Stuck ≡ Converged → ⊥
@@ -41,16 +41,21 @@ spent-stuck : Spent ≡ Stuck → ⊥
 spent-stuck q = let z : _≡_ {A = ℕ} 0 1 = cc in omega arith
 
 -- ---- the gap
--- it is the gap of demand 3 that passes twice the tolerance
-pub gap-passes : (P : Problem) (t : ℕ) (a : List ℕ) → (2 * t < gap (bLow P (at a)) (bUp P (at a))) ↔ GapPasses P t a
-gap-passes P t a = apart (bLow P (at a)) (bUp P (at a))
-  where
-    by-sign : (lower upper z : ℤ) → lower -ℤ upper ≡ z → (2 * t < notBelowZero z) ↔ ((upper +ℤ pos (2 * t)) <ℤ lower)
-    by-sign lower upper (pos n) e = omega (arith, integer, -ℤ-parts lower upper, +ℤ-parts upper (pos (2 * t)))
-    by-sign lower upper (negsuc n) e = omega (arith, integer, -ℤ-parts lower upper, +ℤ-parts upper (pos (2 * t)))
+-- document 01's test for convergence is one of the gap
+module _ (t : ℕ) (lower upper : ℤ) where
+  pub gap-passes : GapPasses t lower upper ↔ ((upper +ℤ pos (2 * t)) <ℤ lower)
+  gap-passes = by-sign (lower -ℤ upper) refl
+    where
+      by-sign : (z : ℤ) → lower -ℤ upper ≡ z → (2 * t < notBelowZero z) ↔ ((upper +ℤ pos (2 * t)) <ℤ lower)
+      by-sign (pos n) e = omega (arith, integer, -ℤ-parts lower upper, +ℤ-parts upper (pos (2 * t)))
+      by-sign (negsuc n) e = omega (arith, integer, -ℤ-parts lower upper, +ℤ-parts upper (pos (2 * t)))
 
-    apart : (lower upper : ℤ) → (2 * t < gap lower upper) ↔ ((upper +ℤ pos (2 * t)) <ℤ lower)
-    apart lower upper = by-sign lower upper (lower -ℤ upper) refl
+  pub gap-within : (gap lower upper ≤ 2 * t) ↔ (lower ≤ℤ (upper +ℤ pos (2 * t)))
+  gap-within = by-sign (lower -ℤ upper) refl
+    where
+      by-sign : (z : ℤ) → lower -ℤ upper ≡ z → (notBelowZero z ≤ 2 * t) ↔ (lower ≤ℤ (upper +ℤ pos (2 * t)))
+      by-sign (pos n) e = omega (arith, integer, -ℤ-parts lower upper, +ℤ-parts upper (pos (2 * t)))
+      by-sign (negsuc n) e = omega (arith, integer, -ℤ-parts lower upper, +ℤ-parts upper (pos (2 * t)))
 
 -- ---- what is done at the multipliers a
 module _ (P : Problem) (t : ℕ) where
@@ -70,21 +75,24 @@ module _ (P : Problem) (t : ℕ) where
 
     -- what each answer says
     View : Next → Type 0
-    View (ends Converged) = bLow P (at a) ≤ℤ (bUp P (at a) +ℤ pos (2 * t))
-    View (ends Stuck) = GapPasses P t a × (workingPair P a ≡ none)
+    View (ends Converged) = gap (bLow P (at a)) (bUp P (at a)) ≤ 2 * t
+    View (ends Stuck) = GapPasses t (bLow P (at a)) (bUp P (at a)) × (workingPair P a ≡ none)
     View (ends Spent) = ⊥
-    View (goesOn b) = GapPasses P t a × (i : ℕ) × (j : ℕ) × Candidate P a i j × (b ≡ moved P a i j (amount P a i j))
+    View (goesOn b) = GapPasses t (bLow P (at a)) (bUp P (at a)) × (i : ℕ) × (j : ℕ) × Candidate P a i j × (b ≡ moved P a i j (amount P a i j))
 
     view : View (next P t a)
     unfolding View
     view = by-gap (leZ (bLow P (at a)) (bUp P (at a) +ℤ pos (2 * t))) refl
       where
+        passes : leZ (bLow P (at a)) (bUp P (at a) +ℤ pos (2 * t)) ≡ false → GapPasses t (bLow P (at a)) (bUp P (at a))
+        passes e = gap-passes t (bLow P (at a)) (bUp P (at a)) .1 (leZ-false (bLow P (at a)) (bUp P (at a) +ℤ pos (2 * t)) e)
+
         by-pair : leZ (bLow P (at a)) (bUp P (at a) +ℤ pos (2 * t)) ≡ false → (o : Option (ℕ × ℕ)) → workingPair P a ≡ o → View (next P t a)
-        by-pair e none f = subst View (sym (next-stuck e f)) (leZ-false (bLow P (at a)) (bUp P (at a) +ℤ pos (2 * t)) e, f)
-        by-pair e (some ij) f = subst View (sym (next-moves e f)) (leZ-false (bLow P (at a)) (bUp P (at a) +ℤ pos (2 * t)) e, ij .0, ij .1, working-pair-sound P a f, refl)
+        by-pair e none f = subst View (sym (next-stuck e f)) (passes e, f)
+        by-pair e (some ij) f = subst View (sym (next-moves e f)) (passes e, ij .0, ij .1, working-pair-sound P a f, refl)
 
         by-gap : (b : Bool) → leZ (bLow P (at a)) (bUp P (at a) +ℤ pos (2 * t)) ≡ b → View (next P t a)
-        by-gap true e = subst View (sym (next-converged e)) (leZ-true (bLow P (at a)) (bUp P (at a) +ℤ pos (2 * t)) e)
+        by-gap true e = subst View (sym (next-converged e)) (gap-within t (bLow P (at a)) (bUp P (at a)) .1 (leZ-true (bLow P (at a)) (bUp P (at a) +ℤ pos (2 * t)) e))
         by-gap false e = by-pair e (workingPair P a) refl
 
   -- ---- the run, as a loop takes it: it ends at once, or at a limit of 0, or takes a step and has one less left
@@ -222,26 +230,27 @@ module _ (P : Problem) (t : ℕ) where
       long-left = omega (arith, run-length limit a)
 
       -- .. and no feasible multipliers, on this grid or a finer one, are further below them than the bound, at whichever ending
-      pub run-within : (c : ℕ) → ((i : ℕ) → i < P .count → P .ceiling i ≤ c) → WithinDistance (bound (gap (bLow P (at (run P t limit a .multipliers))) (bUp P (at (run P t limit a .multipliers)))) c (P .count)) P (at (run P t limit a .multipliers))
-      run-within c top = distance-bound P gram (at (run P t limit a .multipliers)) run-feasible c top
+      pub run-bounded : LabelsPresent P → (c : ℕ) → ((i : ℕ) → i < P .count → P .ceiling i ≤ c)
+          → BoundedDistance P c (bLow P (at (run P t limit a .multipliers))) (bUp P (at (run P t limit a .multipliers))) (at (run P t limit a .multipliers))
+      run-bounded present c top = bounded-distance P gram present (at (run P t limit a .multipliers)) run-feasible c top
 
       -- the ending means what it says
-      pub run-means : Means P t limit (run P t limit a .steps) (run P t limit a .multipliers) (run P t limit a .ending)
+      pub run-means : OutcomeMeans P t limit (run P t limit a) (run P t limit a .ending)
       unfolding Final View
       run-means = ⊎-elim (λ e. ended (o .ending) (subst (View (o .multipliers)) e (view (o .multipliers)))) at-limit (run-final limit a)
         where
           o : Outcome
           o = run P t limit a
 
-          ended : (e : Ending) → View (o .multipliers) (ends e) → Means P t limit (o .steps) (o .multipliers) e
+          ended : (e : Ending) → View (o .multipliers) (ends e) → OutcomeMeans P t limit o e
           ended Converged v = v
           ended Stuck v = (v .0, stuck-exactly P gram (o .multipliers) long-left run-feasible .0 (v .1))
           ended Spent v = absurd v
 
-          at-limit : (o .ending ≡ Spent) × (o .steps ≡ limit) × (b : List ℕ) × (next P t (o .multipliers) ≡ goesOn b) → Means P t limit (o .steps) (o .multipliers) (o .ending)
+          at-limit : (o .ending ≡ Spent) × (o .steps ≡ limit) × (b : List ℕ) × (next P t (o .multipliers) ≡ goesOn b) → OutcomeMeans P t limit o (o .ending)
           at-limit (spent, all, b, h) =
               let v = subst (View (o .multipliers)) h (view (o .multipliers)) in
-              subst (Means P t limit (o .steps) (o .multipliers)) (sym spent) (all, v .0, v .1, v .2, v .3)
+              subst (OutcomeMeans P t limit o) (sym spent) (all, v .0, v .1, v .2, v .3)
 
       -- ---- each ending is given exactly when its meaning holds at the multipliers left
       abbrev left : List ℕ
@@ -251,33 +260,33 @@ module _ (P : Problem) (t : ℕ) where
       pub converged-exactly : (run P t limit a .ending ≡ Converged) ↔ (bLow P (at (run P t limit a .multipliers)) ≤ℤ (bUp P (at (run P t limit a .multipliers)) +ℤ pos (2 * t)))
       converged-exactly = by-ending (run P t limit a .ending) run-means
         where
-          by-ending : (e : Ending) → Means P t limit (run P t limit a .steps) left e → (e ≡ Converged) ↔ (bLow P (at left) ≤ℤ (bUp P (at left) +ℤ pos (2 * t)))
-          by-ending Converged m = (λ q. m, λ q. refl)
-          by-ending Stuck m = (λ q. absurd (stuck-converged q), λ q. clashℤ (m .0) q)
-          by-ending Spent m = (λ q. absurd (spent-converged q), λ q. clashℤ (m .1) q)
+          by-ending : (e : Ending) → OutcomeMeans P t limit (run P t limit a) e → (e ≡ Converged) ↔ (bLow P (at left) ≤ℤ (bUp P (at left) +ℤ pos (2 * t)))
+          by-ending Converged m = (λ q. gap-within t (bLow P (at left)) (bUp P (at left)) .0 m, λ q. refl)
+          by-ending Stuck m = (λ q. absurd (stuck-converged q), λ q. clashℤ (gap-passes t (bLow P (at left)) (bUp P (at left)) .0 (m .0)) q)
+          by-ending Spent m = (λ q. absurd (spent-converged q), λ q. clashℤ (gap-passes t (bLow P (at left)) (bUp P (at left)) .0 (m .1)) q)
 
       -- Demand 3: "Training ends stuck exactly when, at the multipliers that it leaves, the gap passes twice the tolerance and no move
       -- of two multipliers on the grid lowers the objective."
-      pub stuck-ending-exactly : (run P t limit a .ending ≡ Stuck) ↔ (GapPasses P t (run P t limit a .multipliers) × NoMoveLowers P (at (run P t limit a .multipliers)))
+      pub stuck-ending-exactly : (run P t limit a .ending ≡ Stuck) ↔ (OutcomeGapPasses P t (run P t limit a) × NoMoveLowers P (at (run P t limit a .multipliers)))
       stuck-ending-exactly = by-ending (run P t limit a .ending) run-means
         where
-          by-ending : (e : Ending) → Means P t limit (run P t limit a .steps) left e → (e ≡ Stuck) ↔ (GapPasses P t left × NoMoveLowers P (at left))
-          by-ending Converged m = (λ q. absurd (stuck-converged (sym q)), λ q. clashℤ (q .0) m)
+          by-ending : (e : Ending) → OutcomeMeans P t limit (run P t limit a) e → (e ≡ Stuck) ↔ (OutcomeGapPasses P t (run P t limit a) × NoMoveLowers P (at left))
+          by-ending Converged m = (λ q. absurd (stuck-converged (sym q)), λ q. absurd (omega (arith, q .0)))
           by-ending Stuck m = (λ q. m, λ q. refl)
           by-ending Spent m = (λ q. absurd (spent-stuck q), λ q. absurd (candidate-lowers P gram left long-left run-feasible (m .4) (q .1)))
 
       -- the limit ended the run exactly when the gap passes and some pair moves
-      pub spent-exactly : (run P t limit a .ending ≡ Spent) ↔ (GapPasses P t (run P t limit a .multipliers) × (i : ℕ) × (j : ℕ) × Candidate P (run P t limit a .multipliers) i j)
+      pub spent-exactly : (run P t limit a .ending ≡ Spent) ↔ (OutcomeGapPasses P t (run P t limit a) × (i : ℕ) × (j : ℕ) × Candidate P (run P t limit a .multipliers) i j)
       spent-exactly = by-ending (run P t limit a .ending) run-means
         where
-          by-ending : (e : Ending) → Means P t limit (run P t limit a .steps) left e → (e ≡ Spent) ↔ (GapPasses P t left × (i : ℕ) × (j : ℕ) × Candidate P left i j)
-          by-ending Converged m = (λ q. absurd (spent-converged (sym q)), λ q. clashℤ (q .0) m)
+          by-ending : (e : Ending) → OutcomeMeans P t limit (run P t limit a) e → (e ≡ Spent) ↔ (OutcomeGapPasses P t (run P t limit a) × (i : ℕ) × (j : ℕ) × Candidate P left i j)
+          by-ending Converged m = (λ q. absurd (spent-converged (sym q)), λ q. absurd (omega (arith, q .0)))
           by-ending Stuck m = (λ q. absurd (spent-stuck (sym q)), λ q. absurd (candidate-lowers P gram left long-left run-feasible (q .3) (m .1)))
           by-ending Spent m = (λ q. (m .1, m .2, m .3, m .4), λ q. refl)
 
       -- all of this
-      pub run-sound : (c : ℕ) → ((i : ℕ) → i < P .count → P .ceiling i ≤ c) → Sound P t limit c (run P t limit a)
-      run-sound c top = record { bounded = record { feasible = run-feasible; distance = run-within c top }; in-limit = run-steps-limit limit a; means = run-means; stuck-exactly = stuck-ending-exactly }
+      pub run-sound : LabelsPresent P → (c : ℕ) → ((i : ℕ) → i < P .count → P .ceiling i ≤ c) → Sound P t limit c (run P t limit a)
+      run-sound present c top = record { bounded = run-bounded present c top; in-limit = run-steps-limit limit a; means = run-means; stuck-exactly = stuck-ending-exactly }
 
 -- ---- the start: "all multipliers 0"
 abbrev pub zeros : ℕ → List ℕ
@@ -297,8 +306,8 @@ pub zeros-length : (n : ℕ) → length (zeros n) ≡ n
 zeros-length n = length-replicate {A = ℕ} n 0
 
 -- what training leaves, where no ceiling is above c
-pub training-sound : (P : Problem) → Gram (P .count) (P .kernel) → (t budget c : ℕ) → ((i : ℕ) → i < P .count → P .ceiling i ≤ c) → Sound P t budget c (training P t budget)
-training-sound P gram t budget c top = run-sound P t gram budget (zeros (P .count)) (omega (arith, zeros-length (P .count))) (zeros-feasible P) c top
+pub training-sound : (P : Problem) → Gram (P .count) (P .kernel) → LabelsPresent P → (t budget c : ℕ) → ((i : ℕ) → i < P .count → P .ceiling i ≤ c) → Sound P t budget c (training P t budget)
+training-sound P gram present t budget c top = run-sound P t gram budget (zeros (P .count)) (omega (arith, zeros-length (P .count))) (zeros-feasible P) present c top
 
 pub training-length : (P : Problem) (t budget : ℕ) → length (training P t budget .multipliers) ≡ P .count
 training-length P t budget = run-length P t budget (zeros (P .count)) ∙ zeros-length (P .count)

@@ -3,10 +3,9 @@
 use mathlib.Core.Path.{_≡_}
 use mathlib.Core.Logic.{_↔_}
 use mathlib.Core.List.{List}
-use Prim.Native.Nat.{ℕ, suc, _+_, _*_, _≤_}
-use lib.IntN.{pos, _+ℤ_}
-use lib.Signed.{_≤ℤ_, _<ℤ_}
-use Rattle.dual_problem.specs.Problem.{BoundedDistance, Problem, bLow, bUp}
+use Prim.Native.Nat.{ℕ, suc, _+_, _*_, _≤_, _<_}
+use lib.IntN.{ℤ}
+use Rattle.dual_problem.specs.Problem.{BoundedDistance, Problem, bLow, bUp, gap}
 use Rattle.dual_problem.specs.Items.{at}
 use Rattle.smo_step.specs.Step.{Candidate}
 use Rattle.smo_step.specs.Move.{NoMoveLowers}
@@ -14,22 +13,29 @@ use Rattle.smo.specs.declared.ending.Ending.{Ending}
 use Rattle.smo.specs.declared.ending.Ending.the-variants.{Converged, Stuck, Spent}
 use Rattle.smo.specs.Run.{goesOn, next, Outcome}
 
--- Demand 3: "the gap passes twice the tolerance"; `gap-passes` says that this is the gap of demand 3
-abbrev pub GapPasses : Problem → ℕ → List ℕ → Type 0
-GapPasses P t a = (bUp P (at a) +ℤ pos (2 * t)) <ℤ bLow P (at a)
+-- Demand 3: the gap of the two thresholds answered "passes twice the tolerance"
+abbrev pub GapPasses : ℕ → ℤ → ℤ → Type 0
+GapPasses t lower upper = 2 * t < gap lower upper
 
--- what an ending means, at the multipliers a left after so many steps of those allowed
-abbrev pub Means : Problem → ℕ → ℕ → ℕ → List ℕ → Ending → Type 0
-Means P t limit steps a Converged = bLow P (at a) ≤ℤ (bUp P (at a) +ℤ pos (2 * t))
-Means P t limit steps a Stuck = GapPasses P t a × NoMoveLowers P (at a)
-Means P t limit steps a Spent = (steps ≡ limit) × GapPasses P t a × (i : ℕ) × (j : ℕ) × Candidate P a i j
+-- what an ending means, with the multipliers a left and the thresholds answered after so many steps of those allowed
+abbrev pub Means : Problem → ℕ → ℕ → ℕ → ℤ → ℤ → List ℕ → Ending → Type 0
+Means P t limit steps lower upper a Converged = gap lower upper ≤ 2 * t
+Means P t limit steps lower upper a Stuck = GapPasses t lower upper × NoMoveLowers P (at a)
+Means P t limit steps lower upper a Spent = (steps ≡ limit) × GapPasses t lower upper × (i : ℕ) × (j : ℕ) × Candidate P a i j
+
+-- the same of an outcome, with the thresholds of its multipliers
+abbrev pub OutcomeMeans : Problem → ℕ → ℕ → Outcome → Ending → Type 0
+OutcomeMeans P t limit o = Means P t limit (o .steps) (bLow P (at (o .multipliers))) (bUp P (at (o .multipliers))) (o .multipliers)
+
+abbrev pub OutcomeGapPasses : Problem → ℕ → Outcome → Type 0
+OutcomeGapPasses P t o = GapPasses t (bLow P (at (o .multipliers))) (bUp P (at (o .multipliers)))
 
 -- Demand 3, and what the ending means, of the outcome of a run that may take `limit` steps, where no ceiling is above c
 pub record Sound (P : Problem) (t limit c : ℕ) (o : Outcome) : Type 0 where
   pub bounded : BoundedDistance P c (bLow P (at (o .multipliers))) (bUp P (at (o .multipliers))) (at (o .multipliers))
   pub in-limit : o .steps ≤ limit
-  pub means : Means P t limit (o .steps) (o .multipliers) (o .ending)
-  pub stuck-exactly : (o .ending ≡ Stuck) ↔ (GapPasses P t (o .multipliers) × NoMoveLowers P (at (o .multipliers)))
+  pub means : OutcomeMeans P t limit o (o .ending)
+  pub stuck-exactly : (o .ending ≡ Stuck) ↔ (OutcomeGapPasses P t o × NoMoveLowers P (at (o .multipliers)))
 
 -- k steps, each as `next` says, lead from a to b
 pub data Steps (P : Problem) (t : ℕ) : List ℕ → ℕ → List ℕ → Type 0 where

@@ -14,16 +14,17 @@ use Rattle.integers.specs.Test.{&&-left}
 use Rattle.integers.specs.Written.{written}
 use Rattle.integers.specs.Written.Laws.{written-at, written-cong, written-front}
 use Rattle.training_file.specs.declared.parameters.Parameters.{Parameters}
+use Rattle.training_file.specs.declared.item.Item.{Item}
 use Rattle.training_file.specs.declared.refusal.Refusal.{Refusal}
 use Rattle.training_file.specs.Refusal.{refusal}
 use Rattle.reading.specs.declared.reader.FileAnswer.the-variants as file-answer
-use Rattle.reading.specs.Reading.{Reading, refused, accepted}
+use Rattle.reading.specs.Reading.{Reading, refused, accepted, reading}
 use Rattle.reading.specs.Calls.{itemsIn, fileAnswer}
 use Rattle.dual_problem.specs.Problem.{Problem, Feasible, problem, gradient}
 use Rattle.dual_problem.specs.Problem.Laws.{problem-gram}
 use Rattle.dual_problem.specs.Problem.Laws.Same.{gradient-cong, b-up-cong, b-low-cong, feasible-cong}
 use Rattle.dual_problem.specs.Items.{at, problemOf}
-use Rattle.dual_problem.specs.Items.Laws.Read.{Read}
+use Rattle.dual_problem.specs.Items.Laws.Read.{Read, labels-present}
 use Rattle.smo.specs.Run.{run, training}
 use Rattle.smo.specs.Run.Laws.{zeros, zeros-length, zeros-feasible, training-length, training-sound}
 use Rattle.smo.specs.Run.Laws.Append.{run-append}
@@ -77,17 +78,17 @@ module _ (P : Problem) (l : List ℕ) (long : P .count ≤ length l) where
         ∙ ap (λ n. take n (training P t budget .multipliers ++ drop (P .count) l)) (sym (training-length P t budget)) ∙ take-append-seam (training P t budget .multipliers) (drop (P .count) l)
 
 -- ---- demand 3
-pub training-quality : (r : Reading) (a : List ℕ) (g : List ℤ) → TrainingQuality r (trainRead r a g .answer) (trainRead r a g .multipliers)
-training-quality (refused number) a g = tt
-training-quality (accepted p order items) a g = by (leb (length items) (length a) && leb (length items) (length g)) refl
+pub training-quality : (file a : List ℕ) (g : List ℤ) → TrainingQuality (reading file) (trainFile file a g .answer) (trainFile file a g .multipliers)
+training-quality file a g = by-reading (reading file) refl
   where
-    by : (x : Bool) → leb (length items) (length a) && leb (length items) (length g) ≡ x
+    by : (p : Parameters) (order : List ℕ) (items : List Item) → reading file ≡ accepted p order items
+        → (x : Bool) → leb (length items) (length a) && leb (length items) (length g) ≡ x
         → let left = cond x (endedWith (problem p items) (training (problem p items) (p .tolerance) (p .budget)) a g) (unchanged (refusal 6) a g) in
         TrainingQuality (accepted p order items) (left .answer) (left .multipliers)
-    by false e = tt
-    by true e =
+    by p order items r false e = tt
+    by p order items r true e =
         let P = problem p items in
-        let s = training-sound P (problem-gram p items) (p .tolerance) (p .budget) (p .ceiling) (λ i l. le-refl (p .ceiling)) in
+        let s = training-sound P (problem-gram p items) (labels-present file p order items r) (p .tolerance) (p .budget) (p .ceiling) (λ i l. le-refl (p .ceiling)) in
         let long : length items ≤ length a = leb-true (length items) (length a) (&&-left (leb (length items) (length a)) (leb (length items) (length g)) e) in
         subst (ResultQuality p P (trainedOf P (training P (p .tolerance) (p .budget)))) (sym (left-front P a long (p .tolerance) (p .budget)))
         (record {
@@ -96,6 +97,10 @@ training-quality (accepted p order items) a g = by (leb (length items) (length a
           means = s .means;
           stuck-exactly = s .stuck-exactly;
         })
+
+    by-reading : (r : Reading) → reading file ≡ r → TrainingQuality r (trainRead r a g .answer) (trainRead r a g .multipliers)
+    by-reading (refused number) e = tt
+    by-reading (accepted p order items) e = by p order items e (leb (length items) (length a) && leb (length items) (length g)) refl
 
 -- ---- the call
 -- a refusal of the file is the answer, and nothing changes

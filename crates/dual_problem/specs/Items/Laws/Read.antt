@@ -15,7 +15,8 @@ use Rattle.reading.specs.Reading.{Reading, refused, accepted, reading}
 use Rattle.reading.specs.Reading.Laws.{accepted-is}
 use Rattle.reading.specs.Calls.{itemIn, itemsIn, orderIn, fileAnswer, tableAfter}
 use Rattle.reading.specs.Calls.Laws.{table-serves}
-use Rattle.reading.specs.Reading.Laws.Accepted.{accepted-ranges, items-counted, items-most, item-features-most}
+use Rattle.reading.specs.Reading.Laws.Accepted.{label-at, accepted-ranges, items-counted, items-most, item-features-most}
+use Rattle.dual_problem.specs.Problem.{LabelsPresent, problem}
 use Rattle.dual_problem.specs.Items.{Listed}
 
 -- the file is read as these parameters, and n items
@@ -39,6 +40,13 @@ answer-read file p n e = by (reading file) refl e
           is = f ∙ ap (λ x. accepted x rs items) parameters;
           counted = sym count ∙ sym (items-counted file p′ rs items (accepted-is file p′ rs items f));
         }
+
+-- each label has an item, and no ceiling is 0
+pub labels-present : (file : List ℕ) (p : Parameters) (order : List ℕ) (items : List Item) → reading file ≡ accepted p order items → LabelsPresent (problem p items)
+labels-present file p order items e label =
+    let a = accepted-is file p order items e in
+    let k = label-at file p order items a label in
+    (k .0, k .1, k .2, accepted-ranges file p order items a .ceiling-least)
 
 module _ {file : List ℕ} {p : Parameters} {n : ℕ} (r : Read file p n) where
   pub read-ranges : Ranges p

@@ -1,6 +1,7 @@
 -- The distance bound of demand 3: no feasible multipliers, on the grid or on a finer one, have an objective below that of feasible
 -- multipliers a by more than 2 × gap × c × ⌊n/2⌋. Of the kernel it uses only that its values are a Gram form. Assumes nothing.
 use mathlib.Core.Path.{_≡_, refl, sym, _∙_, ap, subst}
+use mathlib.Core.Logic.{_↔_}
 use mathlib.Core.Bool.{true}
 use mathlib.Core.List.{[], _∷_}
 use Prim.Native.Nat.{ℕ, _*_, _/_, _≤_, _<_}
@@ -11,7 +12,7 @@ use lib.IntN.{ℤ, pos, negsuc, negℤ, natAbs, _+ℤ_, _-ℤ_, _*ℤ_}
 use lib.Dec.{ltb}
 use lib.Signed.{_≤ℤ_, ≤ℤ-refl}
 use Rattle.integers.specs.Solver.{con, ⊝_, _⊕_, _⊗_, _⊖_, x₀, x₁, x₂, x₃, x₄, x₅, x₆, solve}
-use Rattle.integers.specs.Linear.{posPart, negPart, -ℤ-parts, negℤ-parts, *ℤ-parts, natAbs-parts, one-part}
+use Rattle.integers.specs.Linear.{integer, ≡-to-parts, +ℤ-parts, posPart, negPart, -ℤ-parts, negℤ-parts, *ℤ-parts, natAbs-parts, one-part}
 use Rattle.integers.specs.Bounds.{natAbs-*ℤ}
 use Rattle.integers.specs.Order.{positivity, certificate}
 use Rattle.integers.specs.Sum.{sum}
@@ -23,9 +24,9 @@ use Rattle.integers.specs.Sum.Laws.Balanced.{balanced-bound}
 use Rattle.training_file.specs.declared.item.Label.{Label}
 use Rattle.training_file.specs.declared.item.Label.the-variants.{LookedUp, PassedOver}
 use Rattle.training_file.specs.Item.{opposite}
-use Rattle.dual_problem.specs.Problem.{Problem, Feasible, Finer, WithinDistance, sign, y, gradient, up, low, inUp, inLow, bUp, bLow, objective, gap, bound, notBelowZero}
+use Rattle.dual_problem.specs.Problem.{BoundedDistance, LabelsPresent, doubleSum, finerObjective, Problem, Feasible, Finer, WithinDistance, sign, y, gradient, up, low, inUp, inLow, bUp, bLow, objective, gap, bound, notBelowZero}
 use Rattle.dual_problem.specs.Problem.Laws.{change, expansion}
-use Rattle.dual_problem.specs.Problem.Laws.Sets.{opposite-sign}
+use Rattle.dual_problem.specs.Problem.Laws.Sets.{opposite-sign, thresholds-attained}
 
 -- ---- at a place: a multiplier a of a ceiling c, and v of m times that ceiling
 module _ (m a c v : ℕ) (inside : a ≤ c) (finer : v ≤ m * c) where
@@ -93,3 +94,33 @@ module _ (P : Problem) (gram : Gram (P .count) (P .kernel)) (a : ℕ → ℕ) (f
       (certificate (objective P a ∷ quadratic (P .count) (P .kernel) (change P m a v) ∷ sum (P .count) (λ i. change P m a v i *ℤ gradient P a i) ∷ pos m ∷ pos (gap (bLow P a) (bUp P a)) ∷ pos c ∷ pos (P .count / 2) ∷ [])
       (x₃ ⊗ x₃ ⊗ x₀) (x₃ ⊗ x₃ ⊗ x₀ ⊕ (x₁ ⊕ con (pos 2) ⊗ x₃ ⊗ x₂) ⊕ x₃ ⊗ x₃ ⊗ (con (pos 2) ⊗ x₄ ⊗ x₅ ⊗ x₆))
       (x₁ ⊕ con (pos 2) ⊗ x₃ ⊗ (x₂ ⊖ ⊝ (x₄ ⊗ (x₃ ⊗ x₅ ⊗ x₆)))) refl (search positivity))
+
+-- ---- "m' = 1 is the grid itself"
+pub finer-one : (P : Problem) (v : ℕ → ℕ) → Finer P 1 v ↔ Feasible P v
+finer-one P v = (
+  (λ h. record { within = λ i l. omega (arith, h .within i l); balanced = h .balanced }),
+  (λ h. record { within = λ i l. omega (arith, h .within i l); balanced = h .balanced }),
+)
+
+pub finer-one-objective : (P : Problem) (v : ℕ → ℕ) → finerObjective P 1 v ≡ objective P v
+unfolding finerObjective objective
+finer-one-objective P v =
+    solve (doubleSum P v ∷ pos (P .grid) ∷ sum (P .count) (λ i. pos (v i)) ∷ []) (x₀ ⊖ con (pos 2) ⊗ x₁ ⊗ con (pos 1) ⊗ x₂) (x₀ ⊖ con (pos 2) ⊗ x₁ ⊗ x₂) refl
+
+this-grid : (P : Problem) (a : ℕ → ℕ) (d : ℕ) → WithinDistance d P a → (v : ℕ → ℕ) → Feasible P v → objective P a ≤ℤ (objective P v +ℤ pos d)
+unfolding WithinDistance
+this-grid P a d within v feasible =
+    let h = within 1 (omega arith) v (finer-one P v .1 feasible) in
+    let e = finer-one-objective P v in
+    omega (arith, integer, ≡-to-parts e, *ℤ-parts (pos 1) (objective P a), *ℤ-parts (pos 1) (pos d), +ℤ-parts (finerObjective P 1 v) (pos 1 *ℤ pos d), +ℤ-parts (objective P v) (pos d))
+
+-- ---- demand 3
+pub bounded-distance : (P : Problem) → Gram (P .count) (P .kernel) → LabelsPresent P → (a : ℕ → ℕ) → Feasible P a → (c : ℕ) → ((i : ℕ) → i < P .count → P .ceiling i ≤ c) → BoundedDistance P c (bLow P a) (bUp P a) a
+bounded-distance P gram present a feasible c top =
+    let within = distance-bound P gram a feasible c top in
+    record {
+      feasible = feasible;
+      thresholds = thresholds-attained P a feasible present;
+      this-grid = this-grid P a (bound (gap (bLow P a) (bUp P a)) c (P .count)) within;
+      finer-grids = within;
+    }

@@ -10,17 +10,18 @@ use native.Mathlib.Omega.{arith}
 use borrow.Author.Tests.{ltb-false}
 use lib.Dec.{ltb}
 use lib.IntN.{ℤ, pos, negsuc, negℤ, _*ℤ_, *ℤ-comm}
-use lib.Signed.{_≤ℤ_}
+use lib.Signed.{_≤ℤ_, ltZ}
 use Rattle.integers.specs.Solver.{con, ⊝_, _⊗_, x₀, solve}
 use Rattle.integers.specs.Linear.{integer, ≡-to-parts, *ℤ-parts}
 use Rattle.integers.specs.Sum.Laws.{sum-cong, sum-negℤ}
 use Rattle.integers.specs.Sum.Laws.Places.{sum-term}
 use Rattle.integers.specs.Extremum.{first}
+use Rattle.integers.specs.Extremum.Laws.{attained, greatest-bounds, gtZ-strict, least-bounds, ltZ-strict}
 use Rattle.integers.specs.Extremum.Laws.First.{first-sound, first-none}
 use Rattle.training_file.specs.declared.item.Label.{Label}
 use Rattle.training_file.specs.declared.item.Label.the-variants.{LookedUp, PassedOver}
 use Rattle.training_file.specs.Item.{opposite}
-use Rattle.dual_problem.specs.Problem.{Problem, Feasible, sign, y, inUp, inLow, up, low}
+use Rattle.dual_problem.specs.Problem.{LabelsPresent, ThresholdsAttained, Problem, Feasible, bLow, bUp, gradient, sign, y, inUp, inLow, up, low}
 
 -- ---- the low set in document 01's words: "y = +1 with a > 0, or y = −1 with a < c"
 pub low-looked-up : (a c : ℕ) → inLow LookedUp a c ≡ ltb 0 a
@@ -75,3 +76,19 @@ module _ (P : Problem) (a : ℕ → ℕ) (feasible : Feasible P a) (i : ℕ) (wi
 module _ (P : Problem) (a : ℕ → ℕ) (feasible : Feasible P a) (i : ℕ) (within : i < P .count) (positive : 1 ≤ P .ceiling i) where
   pub low-inhabited : P .label i ≡ PassedOver → (k : ℕ) × (k < P .count) × (low P a k ≡ true)
   low-inhabited passed-over = up-inhabited (oppositeProblem P) a (opposite-feasible feasible) i within positive (ap opposite passed-over)
+
+-- ---- the thresholds of feasible multipliers
+pub thresholds-attained : (P : Problem) (a : ℕ → ℕ) → Feasible P a → LabelsPresent P → ThresholdsAttained P a (bLow P a) (bUp P a)
+thresholds-attained P a feasible present =
+    let l = present PassedOver in
+    let u = present LookedUp in
+    let lower = low-inhabited P a feasible (l .0) (l .1) (l .3) (l .2) in
+    let upper = up-inhabited P a feasible (u .0) (u .1) (u .3) (u .2) in
+    let at-low = attained (P .count) (low P a) (gradient P a) (lower .1) (lower .2) (λ p q. ltZ q p) gtZ-strict in
+    let at-up = attained (P .count) (up P a) (gradient P a) (upper .1) (upper .2) ltZ ltZ-strict in
+    record {
+      lower-attained = (at-low .0, at-low .1 .within, at-low .1 .passes, at-low .2);
+      lower-greatest = λ i m h. greatest-bounds (P .count) (low P a) (gradient P a) m h;
+      upper-attained = (at-up .0, at-up .1 .within, at-up .1 .passes, at-up .2);
+      upper-least = λ i m h. least-bounds (P .count) (up P a) (gradient P a) m h;
+    }

@@ -3,8 +3,8 @@ use mathlib.Core.Path.{sym, ap}
 use mir.Facts.{toZ-ofZ}
 use mir.Syntax.{w64}
 use borrow.Author.Needs.{needs}
-use Rattle.listing.specs.Decimal.{signedDecimal}
-use Rattle.listing.specs.Put.Laws.{put-as, put-then, room-as, room-then}
+use Rattle.text.specs.Decimal.{signedDecimal}
+use Rattle.text.specs.Put.Laws.{put-as, put-then, room-as, room-then}
 use Rattle.listing.proofs.lines.put_field.Statement.{statement}
 use Rattle.listing.proofs.lines.put_field.Tie as tie
 

@@ -1,6 +1,6 @@
 -- `listing::lines::put_refusal` meets its contract. Assumes nothing.
 use borrow.Author.Needs.{needs}
-use Rattle.listing.specs.Put.Laws.{put-then, room-first, room-then}
+use Rattle.text.specs.Put.Laws.{put-then, room-first, room-then}
 use Rattle.listing.proofs.lines.put_refusal.Statement.{statement}
 use Rattle.listing.proofs.lines.put_refusal.Tie as tie
 

@@ -7,7 +7,7 @@ use Rattle.reading.specs.Calls.{itemsIn, orderIn}
 use Rattle.dual_problem.specs.Items.{at}
 use Rattle.listing.specs.Listing.{listing, listingIn, listingOf}
 use Rattle.listing.specs.Listing.Laws.{items-few, listing-fits, listing-trained}
-use Rattle.listing.specs.Put.Laws.{put-all, put-as, room-as}
+use Rattle.text.specs.Put.Laws.{put-all, put-as, room-as}
 use Rattle.listing.proofs.list.list.Statement.{statement}
 use Rattle.listing.proofs.list.list.Tie as tie
 

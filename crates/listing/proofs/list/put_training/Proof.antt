@@ -2,7 +2,7 @@
 use mathlib.Core.Path.{sym, ap}
 use borrow.Author.Needs.{needs}
 use Rattle.listing.specs.Listing.{listing, listingIn}
-use Rattle.listing.specs.Put.Laws.{put-as, room-as}
+use Rattle.text.specs.Put.Laws.{put-as, room-as}
 use Rattle.listing.proofs.list.put_training.Statement.{statement}
 use Rattle.listing.proofs.list.put_training.Tie as tie
 

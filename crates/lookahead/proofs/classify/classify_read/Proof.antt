@@ -14,15 +14,15 @@ use Rattle.training_file.specs.declared.item.Item.{Item}
 use Rattle.training_file.specs.Refusal.{refusal}
 use Rattle.reading.specs.Reading.{reading}
 use Rattle.reading.specs.Calls.{itemsIn}
-use Rattle.dual_problem.specs.declared.multipliers.Judgement.the-variants.{Feasible}
 use Rattle.dual_problem.specs.Items.{MultipliersListed, at, problemOf}
 use Rattle.dual_problem.specs.Items.Laws.{b-low-size, b-up-size}
-use Rattle.dual_problem.specs.Multipliers.{judgement, judgementRefusal}
-use Rattle.dual_problem.specs.Multipliers.Laws.{judgement-feasible}
 use Rattle.dual_problem.specs.Size.{gradientMost}
 use Rattle.lookahead.specs.declared.classify.Classified.the-variants.{Refused, Is}
 use Rattle.lookahead.specs.Classify.{classOf, classifyItems, scoreWith}
 use Rattle.lookahead.specs.Classify.Laws.{class, feasible-are, items-are}
+use Rattle.certifying.specs.declared.multipliers.Judgement.the-variants.{Feasible}
+use Rattle.certifying.specs.Multipliers.{judgement, judgementRefusal}
+use Rattle.certifying.specs.Multipliers.Laws.{judgement-feasible}
 use Rattle.lookahead.proofs.classify.classify_read.Statement.{statement}
 use Rattle.lookahead.proofs.classify.classify_read.Tie as tie
 

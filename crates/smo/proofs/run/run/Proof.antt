@@ -13,8 +13,6 @@ use Rattle.integers.specs.Written.Laws.{length-written, written-same, written-o
 use Rattle.training_file.specs.declared.parameters.Parameters.{Parameters}
 use Rattle.dual_problem.specs.Problem.{Problem, gradient as gradientOf}
 use Rattle.dual_problem.specs.Items.{at, problemOf}
-use Rattle.dual_problem.specs.Thresholds.{bestValue}
-use Rattle.dual_problem.specs.Thresholds.Laws.{low-value, up-value}
 use Rattle.smo_step.specs.Step.{Candidate}
 use Rattle.smo_step.specs.State.{State}
 use Rattle.smo_step.specs.Step.Laws.{moved-length}
@@ -26,6 +24,8 @@ use Rattle.smo.specs.Run.{Outcome, next, goesOn, run as runOf}
 use Rattle.smo.specs.Run.Meaning.{moreSteps}
 use Rattle.smo.specs.Answer.{decisionEnding, leftWhole, trainedOf, trainedWith}
 use Rattle.smo.specs.Answer.Laws.{decision-ends, decision-moves, loop-ends, loop-spent, loop-steps}
+use Rattle.certifying.specs.Thresholds.{bestValue}
+use Rattle.certifying.specs.Thresholds.Laws.{low-value, up-value}
 use Rattle.smo.proofs.run.run.Statement.{statement}
 use Rattle.smo.proofs.run.run.Tie as tie
 

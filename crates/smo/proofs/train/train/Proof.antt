@@ -42,7 +42,7 @@ clauses : (file a : List ℕ) (g : List ℤ) {left : TrainingLeft} → trainFile
     → (left ≡ trainFile file a g) × TrainingQuality (reading file) (left .answer) (left .multipliers)
 clauses file a g e = (
   sym e,
-  subst (λ (x : TrainingLeft). TrainingQuality (reading file) (x .answer) (x .multipliers)) e (training-quality (reading file) a g),
+  subst (λ (x : TrainingLeft). TrainingQuality (reading file) (x .answer) (x .multipliers)) e (training-quality file a g),
 )
 
 returns : tie.Need-returns

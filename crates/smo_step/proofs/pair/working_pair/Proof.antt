@@ -12,15 +12,15 @@ use lib.Signed.{ltZ}
 use Rattle.integers.specs.Extremum.{extreme}
 use Rattle.integers.specs.Extremum.Laws.{Strict, ltZ-strict, gtZ-strict, extreme-sound, extreme-cong}
 use Rattle.training_file.specs.declared.parameters.Parameters.{Parameters}
-use Rattle.dual_problem.specs.declared.thresholds.Best.the-variants as best
-use Rattle.dual_problem.specs.declared.thresholds.Extremes.{Extremes}
 use Rattle.dual_problem.specs.Problem.{Problem, gradient, up, low}
 use Rattle.dual_problem.specs.Items.{at, problemOf}
-use Rattle.dual_problem.specs.Thresholds.{bestOf, extremesOf}
 use Rattle.smo_step.specs.Step.{moves, workingPair}
 use Rattle.smo_step.specs.State.{State}
 use Rattle.smo_step.specs.Pair.{PairState, pairOf}
 use Rattle.smo_step.specs.Step.Laws.WorkingPair.{iLow, iUp, working-pair-tried, working-pair-fallback}
+use Rattle.certifying.specs.declared.thresholds.Best.the-variants as best
+use Rattle.certifying.specs.declared.thresholds.Extremes.{Extremes}
+use Rattle.certifying.specs.Thresholds.{bestOf, extremesOf}
 use Rattle.smo_step.proofs.pair.working_pair.Statement.{statement}
 use Rattle.smo_step.proofs.pair.working_pair.Tie as tie
 

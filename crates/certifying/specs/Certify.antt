@@ -1,0 +1,41 @@
+-- Certifying: the thresholds of any feasible multipliers of any file, or a refusal (document 01; demand 3 for multipliers of any
+-- source). Laws are in Certify/Laws.antt. Assumes nothing.
+pub mod Laws
+use mathlib.Core.List.{List}
+use Prim.Native.Nat.{ℕ}
+use Rattle.training_file.specs.Refusal.{refusal}
+use Rattle.reading.specs.Reading.{Reading, refused, accepted, reading}
+use Rattle.dual_problem.specs.Problem.{BoundedDistance, Problem, bLow, bUp, problem}
+use Rattle.dual_problem.specs.Items.{at}
+use Rattle.certifying.specs.declared.certify.Certified.{Certified}
+use Rattle.certifying.specs.declared.certify.Certified.the-variants.{Refused, Found}
+use Rattle.certifying.specs.declared.certify.Thresholds.{Thresholds}
+use Rattle.certifying.specs.declared.multipliers.Judgement.{Judgement}
+use Rattle.certifying.specs.declared.multipliers.Judgement.the-variants as judged
+use Rattle.certifying.specs.Multipliers.{judgement}
+
+abbrev pub thresholdsOf : Problem → (ℕ → ℕ) → Thresholds
+thresholdsOf P a = record { lower = bLow P a; upper = bUp P a }
+
+-- judged multipliers: the refusal, or both thresholds
+abbrev pub certifyJudged : Problem → List ℕ → Judgement → Certified
+certifyJudged P a (judged.Refused why) = Refused why
+certifyJudged P a judged.Feasible = Found (thresholdsOf P (at a))
+
+-- multipliers of a problem, judged first
+abbrev pub certifyItems : Problem → List ℕ → Certified
+certifyItems P a = certifyJudged P a (judgement P a)
+
+-- "The first refusal met ends the call": those of the file, then those of the multipliers
+abbrev pub certifyRead : Reading → List ℕ → Certified
+certifyRead (refused number) a = Refused (refusal number)
+certifyRead (accepted p order items) a = certifyItems (problem p items) a
+
+abbrev pub certifying : List ℕ → List ℕ → Certified
+certifying file a = certifyRead (reading file) a
+
+-- Demand 3, "the same holds for any multipliers that certifying accepts, whatever their source, with the thresholds that it answers"
+abbrev pub CertifiedDistance : Reading → List ℕ → Certified → Type 0
+CertifiedDistance (refused number) a answer = Unit {0}
+CertifiedDistance (accepted p order items) a (Refused why) = Unit {0}
+CertifiedDistance (accepted p order items) a (Found found) = BoundedDistance (problem p items) (p .ceiling) (found .lower) (found .upper) (at a)

@@ -1,0 +1,26 @@
+// Bytes put into a lent buffer from a place on. Each function answers the place after them.
+
+ghost use mathlib.Core.List.{[], _∷_};
+ghost use Rattle.text.specs.Put.{Put, Room};
+
+// One byte.
+pub fn put_byte(out: &mut [u8], at: usize, byte: u8) -> usize
+    requires { ⌜ Room (byte ∷ []) at (now out) ⌝ }
+    ensures { λ r. ⌜ Put (byte ∷ []) at (now (out .entry)) (now (out .exit)) r ⌝ }
+{
+    out[at] = byte;
+    at + 1
+}
+
+// The bytes of a text, in their order.
+pub fn put_text(out: &mut [u8], at: usize, text: &[u8]) -> usize
+    requires { ⌜ Room (now text) at (now out) ⌝ }
+    ensures { λ r. ⌜ Put (now (text .entry)) at (now (out .entry)) (now (out .exit)) r ⌝ }
+{
+    let mut i = 0;
+    while i < text.len() {
+        out[at + i] = text[i];
+        i += 1;
+    }
+    at + i
+}

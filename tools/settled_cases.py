@@ -1,0 +1,59 @@
+"""Writes document 01's settled examples P1 to P12 for crates/settled_test: what it is run on, and the results settled there.
+
+Nothing is worked out here. What the document leaves out of a result, as the thresholds of P4, is as the theorem `settled` has it
+(crates/lookahead/specs/Settled.antt).
+The stdin has 113 bytes for each case, numbers with their lowest byte first: the length of its name in two bytes and 3 for the name;
+its kind in one; the length of its file in two and 92 for the file; three multipliers of four; a feature in one. Training is lent all
+three multipliers, certifying and classifying are given the first two, and the feature is the word to classify.
+Run it in the repository's folder: python3 tools/settled_cases.py
+"""
+
+import struct
+
+TRAIN, CERTIFY, CLASSIFY = 0, 1, 2
+
+
+def file(items, kernel=0, S=10, c=100, t=0, budget=50):
+    """d 1, and the items by label and feature, chained in that order."""
+    data = struct.pack("<HHBBHIIQII", len(items), 1, 1, kernel, 0, S, c, t, budget, 0)
+    for number, (label, feature) in enumerate(items, 1):
+        follows = number + 1 if number < len(items) else 0
+        data += struct.pack("<HBBb15x", follows, label, 0, feature)
+    return data
+
+
+def plus_minus(**parameters):
+    """The document's ±1 file."""
+    return file([(1, 1), (2, -1)], **parameters)
+
+
+BOTH_ONE = file([(1, 1), (2, 1)], c=7)
+THREE = file([(1, 10), (2, -10), (2, 10)], S=1, c=2)
+
+# Name, kind, file, multipliers, feature; the result. Training is lent 9s, so that what it leaves alone shows.
+CASES = [
+    ("P1", TRAIN, plus_minus(), (9, 9, 9), 0, "converged 1, thresholds 0 0, multipliers 5 5 9"),
+    ("P2", TRAIN, plus_minus(c=3), (9, 9, 9), 0, "converged 1, thresholds -4 4, multipliers 3 3 9"),
+    ("P3", TRAIN, plus_minus(S=1, c=10), (9, 9, 9), 0, "stuck 0, thresholds 1 -1, multipliers 0 0 9"),
+    ("P4", TRAIN, plus_minus(S=1, c=10, t=1), (9, 9, 9), 0, "converged 0, thresholds 1 -1, multipliers 0 0 9"),
+    ("P5", TRAIN, plus_minus(S=1, c=10, budget=0), (9, 9, 9), 0, "stuck 0, thresholds 1 -1, multipliers 0 0 9"),
+    ("P6", TRAIN, plus_minus(budget=0), (9, 9, 9), 0, "spent 0, thresholds 10 -10, multipliers 0 0 9"),
+    ("P7", TRAIN, BOTH_ONE, (9, 9, 9), 0, "converged 1, thresholds -10 10, multipliers 7 7 9"),
+    ("P8", TRAIN, plus_minus(kernel=1, S=16), (9, 9, 9), 0, "converged 1, thresholds 0 0, multipliers 4 4 9"),
+    ("P9", TRAIN, THREE, (9, 9, 9), 0, "converged 1, thresholds 1 1, multipliers 2 0 2"),
+    ("P10", CERTIFY, plus_minus(), (0, 0, 0), 0, "thresholds 10 -10"),
+    ("P11", CERTIFY, plus_minus(), (5, 4, 0), 0, "refused 8"),
+    ("P11", CERTIFY, plus_minus(), (101, 100, 0), 0, "refused 7"),
+    ("P12", CLASSIFY, plus_minus(), (5, 5, 0), 3, "looked up"),
+    ("P12", CLASSIFY, plus_minus(), (5, 5, 0), 0, "passed over"),
+]
+
+
+def entry(name, kind, data, multipliers, feature):
+    return struct.pack("<H3sBH92s3Ib", len(name), name.encode(), kind, len(data), data, *multipliers, feature)
+
+
+with open("crates/settled_test/stdin", "wb") as out:
+    out.write(b"".join(entry(*case) for *case, result in CASES))
+with open("crates/settled_test/stdout", "w") as out:
+    out.write("".join("%s %s\n" % (name, result) for name, *case, result in CASES))
