@@ -1,5 +1,5 @@
-/* The look-ahead trainer for C: training on a file, certifying multipliers of
- * it, and classifying a word by them.
+/* The look-ahead trainer for C: reading a file, training on it, certifying
+ * multipliers of it, and classifying a word by them.
  *
  * Any bytes and any numbers may be handed over. Every call answers 0, or the
  * number of the first refusal that it meets, in the order 1 to 9; on a refusal
@@ -17,7 +17,7 @@
  *
  * n below is the number of items: the records on the file's chain. It is at
  * most LOOKAHEAD_MOST_ITEMS and at most the number of records stored, which
- * bytes 0 and 1 of the file hold, low byte first. */
+ * bytes 0 and 1 of the file hold, low byte first. lookahead_read answers n. */
 #ifndef LOOKAHEAD_H
 #define LOOKAHEAD_H
 
@@ -44,8 +44,8 @@
 #define LOOKAHEAD_REFUSED_RECORD 4
 #define LOOKAHEAD_REFUSED_LABELS 5
 
-/* Refusals that the caller can cause. Training answers only the first of them,
- * certifying the first three, classifying all.
+/* Refusals that the caller can cause. Reading answers none of them, training
+ * only the first, certifying the first three, classifying all.
  *
  * COUNT    training: a lent list shorter than n; certifying and classifying:
  *          multipliers not exactly n in number; classifying: a word that has
@@ -58,6 +58,25 @@
 #define LOOKAHEAD_REFUSED_CEILING 7
 #define LOOKAHEAD_REFUSED_BALANCE 8
 #define LOOKAHEAD_REFUSED_FEATURE 9
+
+/* The kernel that a file names. With p the sum of the products of the features
+ * in use, of two items or of an item and a word, their kernel value is
+ *
+ * LINEAR  p
+ * SQUARE  (p + 1) * (p + 1) */
+#define LOOKAHEAD_LINEAR 0
+#define LOOKAHEAD_SQUARE 1
+
+/* Two numbers that the calls below speak of. With a[i] the multiplier of item
+ * i, y[i] 1 where it was looked up and -1 where it was passed over, K[i][j]
+ * the kernel value of two items and S the file's grid units per 1:
+ *
+ * G of item i is the sum over j of a[j] * y[j] * K[i][j], minus S * y[i]; the
+ * lower threshold is the greatest G of the items whose multiplier times y can
+ * still fall, the upper one the least G of those where it can still rise.
+ *
+ * The objective, which training lowers, is the sum over i and j of
+ * a[i] * a[j] * y[i] * y[j] * K[i][j], minus 2 * S * the sum of the a[i]. */
 
 /* How a training ended.
  *
@@ -78,6 +97,24 @@
 extern "C" {
 #endif
 
+/* Reads a file: how many items it has and which records they are, how many
+ * features are in use, and the kernel.
+ *
+ * Lent: order, of any length, also shorter than n, and the three single
+ * numbers. What stands in them beforehand does not matter. A table of
+ * LOOKAHEAD_MOST_ITEMS places holds the whole order of every file.
+ *
+ * After 0: *items is n, *used the number of features in use, 1 to 16, and
+ * *kernel LOOKAHEAD_LINEAR or LOOKAHEAD_SQUARE. The first n places of order,
+ * or all of them where there are fewer, hold the numbers of the records on the
+ * chain, in the chain's order, and later places what they held. Records are
+ * numbered from 1.
+ *
+ * Refusals: 1 to 5. All four lent things are then as they were. */
+uint8_t lookahead_read(const uint8_t *file, size_t file_len,
+                       uint16_t *order, size_t order_len,
+                       size_t *items, size_t *used, uint8_t *kernel);
+
 /* Trains on a file, from multipliers that are all 0.
  *
  * Lent: multipliers and gradient, each at least n long (longer is fine, and
@@ -89,9 +126,7 @@ extern "C" {
  * *ending is LOOKAHEAD_CONVERGED, LOOKAHEAD_STUCK or LOOKAHEAD_SPENT, *steps
  * the number of moves made, *lower and *upper the thresholds b_low and b_up.
  *
- * A caller who does not know n can lend LOOKAHEAD_MOST_ITEMS places filled
- * with UINT32_MAX: no multiplier is that large, so that the places which hold
- * something else afterwards are the first n.
+ * lookahead_read answers n, and which record each of those places belongs to.
  *
  * Refusals: 1 to 6. All six lent things are then as they were. */
 uint8_t lookahead_train(const uint8_t *file, size_t file_len,
@@ -105,7 +140,13 @@ uint8_t lookahead_train(const uint8_t *file, size_t file_len,
  * the difference lower - upper, or 0 if that is negative, and c the file's
  * ceiling, no multipliers that this call accepts have an objective that is
  * lower by more than 2 * g * c * (n / 2), n / 2 rounded down. The same holds
- * of the multipliers and thresholds that training leaves.
+ * of the multipliers and thresholds that training leaves, and in both cases
+ * also against multipliers of every finer grid, that is with fractions of a
+ * grid unit, their objective taken likewise.
+ *
+ * That bound can pass 64 bits, although g and k = 2 * c * (n / 2) do not: k is
+ * at most 2^24. It is k * (g >> 32) times 2^32, plus k * (g & 0xffffffff), and
+ * neither product passes 64 bits.
  *
  * Handed over: exactly n multipliers, in the chain's order; so of a longer
  * list that was trained into, the first n places.
@@ -120,7 +161,7 @@ uint8_t lookahead_certify(const uint8_t *file, size_t file_len,
 /* Classifies a word by a file and multipliers of it.
  *
  * Handed over: exactly n multipliers, as for certifying, and a word of exactly
- * as many features as the file has in use, which byte 4 of the file holds.
+ * as many features as the file has in use, which lookahead_read answers.
  *
  * After 0: *class_answer is LOOKAHEAD_LOOKED_UP or LOOKAHEAD_PASSED_OVER.
  *

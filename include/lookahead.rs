@@ -1,7 +1,40 @@
-//! The library's calls, declared for Rust. `lookahead.h` beside this file
-//! explains them: lists, refusals, endings and classes.
+//! The library's calls and the numbers that they answer, declared for Rust.
+//! `lookahead.h` beside this file explains them: lists, refusals, kernels,
+//! endings and classes.
+#![allow(dead_code)]
+
+pub const LOOKAHEAD_MOST_ITEMS: usize = 256;
+
+pub const LOOKAHEAD_REFUSED_LENGTH: u8 = 1;
+pub const LOOKAHEAD_REFUSED_HEADER: u8 = 2;
+pub const LOOKAHEAD_REFUSED_CHAIN: u8 = 3;
+pub const LOOKAHEAD_REFUSED_RECORD: u8 = 4;
+pub const LOOKAHEAD_REFUSED_LABELS: u8 = 5;
+pub const LOOKAHEAD_REFUSED_COUNT: u8 = 6;
+pub const LOOKAHEAD_REFUSED_CEILING: u8 = 7;
+pub const LOOKAHEAD_REFUSED_BALANCE: u8 = 8;
+pub const LOOKAHEAD_REFUSED_FEATURE: u8 = 9;
+
+pub const LOOKAHEAD_LINEAR: u8 = 0;
+pub const LOOKAHEAD_SQUARE: u8 = 1;
+
+pub const LOOKAHEAD_CONVERGED: u8 = 1;
+pub const LOOKAHEAD_STUCK: u8 = 2;
+pub const LOOKAHEAD_SPENT: u8 = 3;
+
+pub const LOOKAHEAD_LOOKED_UP: u8 = 1;
+pub const LOOKAHEAD_PASSED_OVER: u8 = 2;
 
 extern "C" {
+    pub fn lookahead_read(
+        file: *const u8,
+        file_len: usize,
+        order: *mut u16,
+        order_len: usize,
+        items: *mut usize,
+        used: *mut usize,
+        kernel: *mut u8,
+    ) -> u8;
     pub fn lookahead_train(
         file: *const u8,
         file_len: usize,

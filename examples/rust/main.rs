@@ -1,4 +1,5 @@
-//! Trains on a small file, certifies the result and classifies two words.
+//! Reads a small file, trains on it, certifies the result and classifies two
+//! words.
 
 #[path = "../../include/lookahead.rs"]
 mod declared;
@@ -6,11 +7,27 @@ mod declared;
 /// The library's calls behind safe functions: a slice brings its length along,
 /// and what a call writes is a place of its own.
 mod lookahead {
-    use super::declared::{lookahead_certify, lookahead_classify, lookahead_train};
+    use super::declared::{
+        lookahead_certify, lookahead_classify, lookahead_read, lookahead_train,
+        LOOKAHEAD_CONVERGED, LOOKAHEAD_LINEAR, LOOKAHEAD_LOOKED_UP, LOOKAHEAD_STUCK,
+    };
+
+    pub use super::declared::LOOKAHEAD_MOST_ITEMS as MOST_ITEMS;
 
     /// The number of a refusal, 1 to 9; include/lookahead.h says what each means.
     #[derive(Debug)]
     pub struct Refusal(pub u8);
+
+    pub enum Kernel {
+        Linear,
+        Square,
+    }
+
+    pub struct Contents {
+        pub items: usize,
+        pub used: usize,
+        pub kernel: Kernel,
+    }
 
     #[derive(Default)]
     pub struct Thresholds {
@@ -30,7 +47,6 @@ mod lookahead {
         pub thresholds: Thresholds,
     }
 
-    #[derive(PartialEq)]
     pub enum Class {
         LookedUp,
         PassedOver,
@@ -43,6 +59,36 @@ mod lookahead {
         }
     }
 
+    /// Fills the first places of the table with record numbers, one for each
+    /// item, as far as there are places.
+    pub fn read(file: &[u8], order: &mut [u16]) -> Result<Contents, Refusal> {
+        let (mut items, mut used, mut kernel) = (0, 0, 0);
+        // SAFETY: every pointer is a reference's, and comes with its slice's length.
+        let number = unsafe {
+            lookahead_read(
+                file.as_ptr(),
+                file.len(),
+                order.as_mut_ptr(),
+                order.len(),
+                &mut items,
+                &mut used,
+                &mut kernel,
+            )
+        };
+        let kernel = match kernel {
+            LOOKAHEAD_LINEAR => Kernel::Linear,
+            _ => Kernel::Square,
+        };
+        unless_refused(
+            number,
+            Contents {
+                items,
+                used,
+                kernel,
+            },
+        )
+    }
+
     /// Fills the first places of both lists, one for each item.
     pub fn train(
         file: &[u8],
@@ -51,7 +97,7 @@ mod lookahead {
     ) -> Result<Trained, Refusal> {
         let (mut ending, mut steps) = (0, 0);
         let mut thresholds = Thresholds::default();
-        // SAFETY: every pointer is a reference's, and comes with its slice's length.
+        // SAFETY: as in `read`.
         let number = unsafe {
             lookahead_train(
                 file.as_ptr(),
@@ -67,8 +113,8 @@ mod lookahead {
             )
         };
         let ending = match ending {
-            1 => Ending::Converged,
-            2 => Ending::Stuck,
+            LOOKAHEAD_CONVERGED => Ending::Converged,
+            LOOKAHEAD_STUCK => Ending::Stuck,
             _ => Ending::Spent,
         };
         unless_refused(
@@ -83,7 +129,7 @@ mod lookahead {
 
     pub fn certify(file: &[u8], multipliers: &[u32]) -> Result<Thresholds, Refusal> {
         let mut thresholds = Thresholds::default();
-        // SAFETY: as in `train`.
+        // SAFETY: as in `read`.
         let number = unsafe {
             lookahead_certify(
                 file.as_ptr(),
@@ -99,7 +145,7 @@ mod lookahead {
 
     pub fn classify(file: &[u8], multipliers: &[u32], word: &[i8]) -> Result<Class, Refusal> {
         let mut class = 0;
-        // SAFETY: as in `train`.
+        // SAFETY: as in `read`.
         let number = unsafe {
             lookahead_classify(
                 file.as_ptr(),
@@ -111,30 +157,31 @@ mod lookahead {
                 &mut class,
             )
         };
-        let class = if class == 1 {
-            Class::LookedUp
-        } else {
-            Class::PassedOver
+        let class = match class {
+            LOOKAHEAD_LOOKED_UP => Class::LookedUp,
+            _ => Class::PassedOver,
         };
         unless_refused(number, class)
     }
 }
 
-use lookahead::{Class, Ending, Refusal};
+use lookahead::{Class, Contents, Ending, Kernel, Refusal};
 
-/// Two items of one feature: 1 was looked up, -1 was passed over.
+/// Two items of one feature: 1 was looked up, -1 was passed over. They stand in
+/// records 3 and 1; record 2 is spare.
 fn small_file() -> Vec<u8> {
     let mut file = Vec::new();
-    file.extend(2u16.to_le_bytes()); // records
-    file.extend(1u16.to_le_bytes()); // the first record of the chain
+    file.extend(3u16.to_le_bytes()); // records
+    file.extend(3u16.to_le_bytes()); // the first record of the chain
     file.extend([1, 0, 0, 0]); // one feature in use, the linear kernel, spare
     file.extend(10u32.to_le_bytes()); // grid units per 1
     file.extend(100u32.to_le_bytes()); // ceiling of a multiplier
     file.extend(0u64.to_le_bytes()); // tolerance
     file.extend(50u32.to_le_bytes()); // step budget
     file.extend([0; 4]); // spare
-    file.extend(record(2, 1, 1));
     file.extend(record(0, 2, -1));
+    file.extend([0; 20]); // the spare record
+    file.extend(record(1, 1, 1));
     file
 }
 
@@ -171,9 +218,23 @@ fn print_class(file: &[u8], multipliers: &[u32], feature: i8) {
     }
 }
 
+fn print_contents(read: &Contents) {
+    let kernel = match read.kernel {
+        Kernel::Linear => "linear",
+        Kernel::Square => "square",
+    };
+    println!(
+        "read: items {}, features {}, kernel {kernel}",
+        read.items, read.used
+    );
+}
+
 fn main() -> Result<(), Refusal> {
     let file = small_file();
-    let (mut multipliers, mut gradient) = ([0; 2], [0; 2]);
+    let mut order = [0; lookahead::MOST_ITEMS];
+    let read = lookahead::read(&file, &mut order)?;
+    print_contents(&read);
+    let (mut multipliers, mut gradient) = (vec![0; read.items], vec![0; read.items]);
     let trained = lookahead::train(&file, &mut multipliers, &mut gradient)?;
     let unit = if trained.steps == 1 { "step" } else { "steps" };
     println!(
@@ -181,7 +242,9 @@ fn main() -> Result<(), Refusal> {
         ending_name(trained.ending),
         trained.steps
     );
-    println!("multipliers: {} {}", multipliers[0], multipliers[1]);
+    for (record, multiplier) in order.iter().zip(&multipliers) {
+        println!("record {record}: multiplier {multiplier}");
+    }
     let found = trained.thresholds;
     println!("thresholds: lower {}, upper {}", found.lower, found.upper);
     print_certified("certify", &file, &multipliers);

@@ -1,4 +1,4 @@
-/* Times the library's three calls and the same calls in plain C, by turns in one run, on each training file named. Prints how many times
+/* Times the library's four calls and the same calls in plain C, by turns in one run, on each training file named. Prints how many times
  * the plain one's time the library takes. Ends with status 1 where an answer differs. Refused files are passed over. */
 
 #include "lookahead.h"
@@ -6,49 +6,52 @@
 #include <string.h>
 #include <time.h>
 
-enum { PLACES = 32 + 20 * LOOKAHEAD_MOST_ITEMS + 1, ROUNDS = 9, CALLS = 3 };
+enum { PLACES = 32 + 20 * LOOKAHEAD_MOST_ITEMS + 1, ROUNDS = 9, CALLS = 4 };
 
 static const double LEAST_SECONDS = 0.01;
-static const char *const NAMES[CALLS] = {"train", "certify", "classify"};
+static const char *const NAMES[CALLS] = {"read", "train", "certify", "classify"};
 
 typedef struct {
+    __typeof__(lookahead_read) *read;
     __typeof__(lookahead_train) *train;
     __typeof__(lookahead_certify) *certify;
     __typeof__(lookahead_classify) *classify;
 } Calls;
 
 /* Plain C: tests/compare/stub/stub.c under other names. */
+extern __typeof__(lookahead_read) plain_read;
 extern __typeof__(lookahead_train) plain_train;
 extern __typeof__(lookahead_certify) plain_certify;
 extern __typeof__(lookahead_classify) plain_classify;
 
-static const Calls LIBRARY = {lookahead_train, lookahead_certify, lookahead_classify};
-static const Calls PLAIN = {plain_train, plain_certify, plain_classify};
+static const Calls LIBRARY = {lookahead_read, lookahead_train, lookahead_certify, lookahead_classify};
+static const Calls PLAIN = {plain_read, plain_train, plain_certify, plain_classify};
 
 static uint8_t file[PLACES];
 static size_t length;
 
 typedef struct {
+    size_t items, used;
+    uint16_t order[LOOKAHEAD_MOST_ITEMS];
     uint32_t multipliers[LOOKAHEAD_MOST_ITEMS];
     int64_t gradient[LOOKAHEAD_MOST_ITEMS];
-    uint8_t refusal, ending, class;
+    uint8_t refusal, kernel, ending, class;
     uint32_t steps;
     int64_t lower, upper;
 } Answer;
-
-/* How many items there are, once the file was trained on. */
-static size_t items;
 
 static const int8_t *word(void) { return (const int8_t *)file + 36; }
 
 static void make(const Calls *by, int call, Answer *x) {
     if (call == 0)
+        x->refusal = by->read(file, length, x->order, LOOKAHEAD_MOST_ITEMS, &x->items, &x->used, &x->kernel);
+    else if (call == 1)
         x->refusal = by->train(file, length, x->multipliers, LOOKAHEAD_MOST_ITEMS, x->gradient, LOOKAHEAD_MOST_ITEMS,
                                &x->ending, &x->steps, &x->lower, &x->upper);
-    else if (call == 1)
-        x->refusal = by->certify(file, length, x->multipliers, items, &x->lower, &x->upper);
+    else if (call == 2)
+        x->refusal = by->certify(file, length, x->multipliers, x->items, &x->lower, &x->upper);
     else
-        x->refusal = by->classify(file, length, x->multipliers, items, word(), file[4], &x->class);
+        x->refusal = by->classify(file, length, x->multipliers, x->items, word(), x->used, &x->class);
 }
 
 static double seconds(const Calls *by, int call, Answer *x, long times) {
@@ -80,21 +83,13 @@ static int load(const char *name) {
     return 1;
 }
 
-/* The records on the chain of a file that was accepted. */
-static size_t chained(void) {
-    size_t count = 0;
-    for (unsigned r = file[2] | file[3] << 8; r != 0; count++) r = file[12 + 20 * r] | file[13 + 20 * r] << 8;
-    return count;
-}
-
 static int same_answers(Answer *x, Answer *z) {
     memset(x, 0, sizeof *x);
     memset(z, 0, sizeof *z);
     for (int call = 0; call < CALLS; call++) {
         make(&LIBRARY, call, x);
         make(&PLAIN, call, z);
-        if (x->refusal != 0 && z->refusal != 0) return x->refusal == z->refusal;
-        items = chained();
+        if (x->refusal != 0 || z->refusal != 0) return x->refusal == z->refusal;
     }
     return memcmp(x, z, sizeof *x) == 0;
 }
@@ -108,7 +103,7 @@ int main(int count, char **names) {
             return 1;
         }
         if (x.refusal != 0) continue;
-        printf("%s, %zu items, %u steps:", names[k], items, (unsigned)x.steps);
+        printf("%s, %zu items, %u steps:", names[k], x.items, (unsigned)x.steps);
         for (int call = 0; call < CALLS; call++) {
             double l, p;
             measure(call, &x, &l, &p);

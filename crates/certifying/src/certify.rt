@@ -1,4 +1,5 @@
 // Certifying: both thresholds of any feasible multipliers of any file.
+// `find_thresholds` is for the crates above, which have judged the multipliers; `certify` asks nothing.
 
 ghost use mathlib.Core.Path.{_≡_};
 ghost use Rattle.training_file.specs.Parameters.{Ranges};

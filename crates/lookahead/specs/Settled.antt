@@ -1,10 +1,12 @@
 -- Document 01, "Settled examples": P1 to P12 as one table of inputs and results, and one theorem, by the definitions that the
 -- contracts of the public calls cite. Assumes nothing.
 use mathlib.Core.Path.{_≡_, refl}
+use mathlib.Core.Bool.{Bool, false}
 use mathlib.Core.List.{List, [], _∷_, _++_}
+use mathlib.Core.Option.{Option, none, some}
 use Prim.Native.Nat.{ℕ}
 use lib.IntN.{ℤ, pos, negsuc}
-use lib.ListN.{replicate}
+use lib.ListN.{length, replicate}
 use Rattle.integers.specs.Sum.{sum}
 use Rattle.integers.specs.Extremum.{extreme, first}
 use Rattle.integers.specs.Places.{all}
@@ -16,9 +18,10 @@ use Rattle.training_file.specs.Record.{recordAllowed}
 use Rattle.reading.specs.Header.{headerAllowed, lengthAllowed}
 use Rattle.reading.specs.Chain.{walk}
 use Rattle.reading.specs.Reading.{Reading, refused, accepted, every, labelled, reading}
-use Rattle.dual_problem.specs.Problem.{gradient, doubleSum, objective}
+use Rattle.dual_problem.specs.Problem.{Problem, problem, gradient, doubleSum, objective}
 use Rattle.dual_problem.specs.Items.{at}
-use Rattle.smo_step.specs.Step.{amount, firstCandidate, workingPair}
+use Rattle.smo_step.specs.Step.{amount, firstCandidate, moves, workingPair}
+use Rattle.smo_step.specs.Step.Laws.WorkingPair.{iLow, iUp}
 use Rattle.smo.specs.declared.ending.Ending.{Ending}
 use Rattle.smo.specs.declared.ending.Ending.the-variants.{Converged, Stuck, Spent}
 use Rattle.smo.specs.declared.train.Training.the-variants.{Ended}
@@ -55,6 +58,8 @@ three = header 3 0 1 2 0 50 ++ stored 2 1 10 ++ stored 3 2 246 ++ stored 0 2 10
 pub data Case : Type 0 where
   -- the file; ending, steps, b_low, b_up; the lent list of three 9s afterwards
   trains : List ℕ → Ending → ℕ → ℤ → ℤ → List ℕ → Case
+  -- the file: at the start the pair tried first does not move
+  firstPairStays : List ℕ → Case
   -- the file, the multipliers; the answer
   certifies : List ℕ → List ℕ → Certified → Case
   -- the file, the multipliers, the word; the answer and the value
@@ -63,6 +68,16 @@ pub data Case : Type 0 where
 abbrev trained : List ℕ → TrainingLeft
 trained file = trainFile file (replicate 3 9) (replicate 3 (pos 9))
 
+-- whether the pair tried first moves, where training starts
+abbrev pairMoves : Problem → Option ℕ → Option ℕ → Option Bool
+pairMoves P (some i) (some j) = some (moves P (replicate (P .count) 0) i j)
+pairMoves P (some i) none = none
+pairMoves P none o = none
+
+abbrev firstPairMoves : Reading → Option Bool
+firstPairMoves (refused number) = none
+firstPairMoves (accepted p order items) = let P = problem p items in pairMoves P (iLow P (replicate (length items) 0)) (iUp P (replicate (length items) 0))
+
 abbrev value : Reading → List ℕ → List ℤ → ℤ
 value (refused number) a word = pos 0
 value (accepted p order items) a word = score p items (at a) word
@@ -70,6 +85,7 @@ value (accepted p order items) a word = score p items (at a) word
 abbrev pub Holds : Case → Type 0
 Holds (trains file ending steps lower upper left) =
     (trained file .answer ≡ Ended (record { ending = ending; steps = steps; lower = lower; upper = upper })) × (trained file .multipliers ≡ left)
+Holds (firstPairStays file) = firstPairMoves (reading file) ≡ some false
 Holds (certifies file a answer) = certifying file a ≡ answer
 Holds (classifies file a word answer v) = (classifying file a word ≡ answer) × (value (reading file) a word ≡ v)
 
@@ -87,7 +103,8 @@ settledExamples =
     ∷ trains (plusMinus 0 10 100 0 0) Spent 0 (pos 10) (negsuc 9) (0 ∷ 0 ∷ 9 ∷ [])  -- P6
     ∷ trains bothOne Converged 1 (negsuc 9) (pos 10) (7 ∷ 7 ∷ 9 ∷ [])  -- P7
     ∷ trains (plusMinus 1 16 100 0 50) Converged 1 (pos 0) (pos 0) (4 ∷ 4 ∷ 9 ∷ [])  -- P8
-    ∷ trains three Converged 1 (pos 1) (pos 1) (2 ∷ 0 ∷ 2 ∷ [])  -- P9
+    ∷ firstPairStays three  -- P9
+    ∷ trains three Converged 1 (pos 1) (pos 1) (2 ∷ 0 ∷ 2 ∷ [])
     ∷ certifies (plusMinus 0 10 100 0 50) (0 ∷ 0 ∷ []) (certified.Found (record { lower = pos 10; upper = negsuc 9 }))  -- P10
     ∷ certifies (plusMinus 0 10 100 0 50) (5 ∷ 4 ∷ []) (certified.Refused (refusal 8))  -- P11
     ∷ certifies (plusMinus 0 10 100 0 50) (101 ∷ 100 ∷ []) (certified.Refused (refusal 7))
@@ -115,8 +132,8 @@ settled = (
               (
                 (refl, refl),
                 (
-                  (refl, refl),
-                  (refl, (refl, (refl, ((refl, refl), ((refl, refl), tt))))),
+                  refl,
+                  ((refl, refl), (refl, (refl, (refl, ((refl, refl), ((refl, refl), tt)))))),
                 ),
               ),
             ),

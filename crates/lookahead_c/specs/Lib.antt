@@ -2,5 +2,6 @@
 pub mod Certifying
 pub mod Classifying
 pub mod Numbering
+pub mod Reading
 pub mod Refusals
 pub mod Training

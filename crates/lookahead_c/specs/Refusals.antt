@@ -2,12 +2,19 @@
 -- by the number alone a caller in C tells a refusal from an answer, is in Refusals/Laws.antt. Assumes nothing.
 pub mod Laws
 use Prim.Native.Nat.{_≤_}
+use Rattle.reading.specs.declared.reader.FileAnswer.{FileAnswer}
+use Rattle.reading.specs.declared.reader.FileAnswer.the-variants as read
 use Rattle.smo.specs.declared.train.Training.{Training}
 use Rattle.smo.specs.declared.train.Training.the-variants as training
 use Rattle.lookahead.specs.declared.classify.Classified.{Classified}
 use Rattle.lookahead.specs.declared.classify.Classified.the-variants as classified
 use Rattle.certifying.specs.declared.certify.Certified.{Certified}
 use Rattle.certifying.specs.declared.certify.Certified.the-variants as certified
+
+-- reading: 1 to 5
+abbrev pub ReadRefusals : FileAnswer → Type 0
+ReadRefusals (read.Refused why) = (1 ≤ why .number) × (why .number ≤ 5)
+ReadRefusals (read.Accepted p count) = Unit {0}
 
 -- training: 1 to 6
 abbrev pub TrainRefusals : Training → Type 0

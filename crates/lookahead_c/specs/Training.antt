@@ -1,10 +1,18 @@
--- What a call for training answers in C, by what the library answers. Assumes nothing.
+-- What a call for training answers in C, by what the library answers. Laws are in Training/Laws.antt. Assumes nothing.
+pub mod Laws
+use mathlib.Core.Path.{_≡_}
 use mathlib.Core.List.{List}
-use Prim.Native.Nat.{ℕ}
+use Prim.Native.Nat.{ℕ, zero, suc}
 use lib.IntN.{ℤ}
+use lib.ListN.{length, take}
+use Rattle.training_file.specs.declared.parameters.Parameters.{Parameters}
+use Rattle.training_file.specs.declared.item.Item.{Item}
+use Rattle.reading.specs.Reading.{Reading, refused, accepted}
+use Rattle.dual_problem.specs.Problem.{problem}
+use Rattle.smo.specs.declared.ending.Ending.{Ending}
 use Rattle.smo.specs.declared.train.Training.{Training}
 use Rattle.smo.specs.declared.train.Training.the-variants.{Refused, Ended}
-use Rattle.smo.specs.Train.{TrainingLeft}
+use Rattle.smo.specs.Train.{ResultQuality, TrainingLeft}
 use Rattle.lookahead_c.specs.Numbering.{endingNumber}
 
 -- 0, or the refusal's number
@@ -39,3 +47,16 @@ trainSeen left before =
       gradient = left .gradient;
       found = trainFound (left .answer) before;
     }
+
+-- the quality of a training that was answered, by the number answered
+abbrev pub AnsweredQuality : Parameters → List Item → ℕ → TrainNumbers → List ℕ → Type 0
+AnsweredQuality p items zero found left =
+    (ending : Ending)
+    × (found .ending ≡ endingNumber ending)
+    × ResultQuality p (problem p items) (record { ending = ending; steps = found .steps; lower = found .lower; upper = found .upper }) (take (length items) left)
+AnsweredQuality p items (suc number) found left = Unit {0}
+
+-- Demand 3, of what the caller sees after an answer of 0: the numbers written, and the multipliers in the first n places
+abbrev pub SeenQuality : Reading → TrainSeen → Type 0
+SeenQuality (refused number) seen = Unit {0}
+SeenQuality (accepted p order items) seen = AnsweredQuality p items (seen .number) (seen .found) (seen .multipliers)

@@ -1,7 +1,8 @@
 // Certifying, for C.
 
 ghost use mathlib.Core.Path.{_≡_};
-ghost use Rattle.lookahead_c.specs.Certifying.{certifySeen};
+ghost use Rattle.lookahead_c.specs.Certifying.{SeenDistance, certifySeen};
+ghost use Rattle.reading.specs.Reading.{reading};
 ghost use Rattle.certifying.specs.Certify.{certifying};
 use lookahead::Certified;
 
@@ -13,9 +14,12 @@ pub extern "C" fn lookahead_certify(
     lower: &mut i64,
     upper: &mut i64,
 ) -> u8
-    ensures { λ r.
+    ensures seen { λ r.
         ⌜ record { number = r; found = record { lower = now (lower .exit); upper = now (upper .exit) } }
         ≡ certifySeen (certifying (now (file .entry)) (now (multipliers .entry))) (record { lower = now (lower .entry); upper = now (upper .entry) }) ⌝ }
+    ensures distance { λ r.
+        ⌜ SeenDistance (reading (now (file .entry))) (now (multipliers .entry))
+        (record { number = r; found = record { lower = now (lower .exit); upper = now (upper .exit) } }) ⌝ }
 {
     let certified = lookahead::certify::certify(file, multipliers);
     match certified {

@@ -5,4 +5,5 @@
 pub mod certify;
 pub mod classify;
 mod numbering;
+pub mod read;
 pub mod train;

@@ -1,8 +1,9 @@
 // Training, for C.
 
 ghost use mathlib.Core.Path.{_≡_};
+ghost use Rattle.reading.specs.Reading.{reading};
 ghost use Rattle.smo.specs.Train.{trainFile};
-ghost use Rattle.lookahead_c.specs.Training.{trainSeen};
+ghost use Rattle.lookahead_c.specs.Training.{SeenQuality, trainSeen};
 use super::numbering::ending_number;
 use lookahead::Training;
 
@@ -17,7 +18,7 @@ pub extern "C" fn lookahead_train(
     lower: &mut i64,
     upper: &mut i64,
 ) -> u8
-    ensures { λ r.
+    ensures seen { λ r.
         ⌜ record {
           number = r;
           multipliers = now (multipliers .exit);
@@ -26,6 +27,14 @@ pub extern "C" fn lookahead_train(
         }
         ≡ trainSeen (trainFile (now (file .entry)) (now (multipliers .entry)) (now (gradient .entry)))
         (record { ending = now (ending .entry); steps = now (steps .entry); lower = now (lower .entry); upper = now (upper .entry) }) ⌝ }
+    ensures quality { λ r.
+        ⌜ SeenQuality (reading (now (file .entry)))
+        (record {
+          number = r;
+          multipliers = now (multipliers .exit);
+          gradient = now (gradient .exit);
+          found = record { ending = now (ending .exit); steps = now (steps .exit); lower = now (lower .exit); upper = now (upper .exit) };
+        }) ⌝ }
 {
     let training = lookahead::train::train(file, multipliers, gradient);
     match training {

@@ -51,8 +51,7 @@ pub fn judge(file: &[u8], count: usize, used: usize) -> Count
             return Count::Refused(answer.refusal());
         };
         looked_up += label.looked_up();
-        let step = walker::step_from(file, number, position);
-        number = step.next();
+        number = walker::next_from(file, number, position);
         position += 1;
     }
     Count::Counted(looked_up)
@@ -68,8 +67,7 @@ pub fn fill(file: &[u8], count: usize, table: &mut [u16])
     let mut position = 0;
     while position < places {
         table[position] = number as u16;
-        let step = walker::step_from(file, number, position);
-        number = step.next();
+        number = walker::next_from(file, number, position);
         position += 1;
     }
 }

@@ -55,3 +55,12 @@ pub fn step_at(file: &[u8], number: usize, met: usize) -> Step
     }
     Step::Next(record::next(file, number))
 }
+
+// The number that one step leads to.
+pub fn next_at(file: &[u8], number: usize, met: usize) -> usize
+    requires { ⌜ WholeFile (now file) ⌝ }
+    ensures { λ n. ⌜ n ≡ stepNext (stepAt (now (file .entry)) number met) ⌝ }
+{
+    let step = step_at(file, number, met);
+    step.next()
+}

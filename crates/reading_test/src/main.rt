@@ -7,6 +7,7 @@ use libc::STDOUT_FILENO;
 use reading::reader;
 use reading::reader::FileAnswer;
 use training_file::bytes::u16_at;
+use training_file::item::Item;
 
 // More files than there are.
 const MOST: usize = 1_000;
@@ -15,7 +16,7 @@ const MOST: usize = 1_000;
 const LONGEST: usize = 5_172;
 
 // The places of the longest order table.
-const PLACES: usize = 256;
+const PLACES: usize = Item::MAX_COUNT;
 
 fn show_answer(answer: FileAnswer) {
     match answer {

@@ -1,7 +1,7 @@
 // The rule for one step of training (document 01, "The step"): which pair moves, by how much, and the move. It may use `integers`,
 // `training_file`, `reading` and `dual_problem`.
 
-pub mod amount;
-pub mod curvature;
+mod amount;
+mod curvature;
 pub mod pair;
 pub mod step;

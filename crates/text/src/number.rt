@@ -1,4 +1,5 @@
 // Numbers in decimal, without leading zeros.
+// The caller sees to it that the buffer has room.
 
 ghost use Rattle.text.specs.Decimal.{decimal, signedDecimal};
 ghost use Rattle.text.specs.Put.{Put, Room};

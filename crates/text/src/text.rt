@@ -1,4 +1,5 @@
 // Bytes put into a lent buffer from a place on. Each function answers the place after them.
+// The caller sees to it that the buffer has room.
 
 ghost use mathlib.Core.List.{[], _∷_};
 ghost use Rattle.text.specs.Put.{Put, Room};

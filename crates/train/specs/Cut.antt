@@ -25,8 +25,12 @@ long-refused file h = by (lengthAllowed file) refl
     by false e = reads-1 file e
     by true e = let held = allowed-whole file e in absurd (omega arith)
 
-pub cut-same : (places : ℕ) (file : List ℕ) → enough ≤ places → listingOf (reading (take places file)) ≡ listingOf (reading file)
-cut-same places file l = by (decLe (length file) places)
+-- the listing of every file is that of its first bytes, so many as there are places
+abbrev pub SameWhenCut : ℕ → Type 0
+SameWhenCut places = (file : List ℕ) → listingOf (reading (take places file)) ≡ listingOf (reading file)
+
+pub cut-same : (places : ℕ) → enough ≤ places → SameWhenCut places
+cut-same places l file = by (decLe (length file) places)
   where
     by : Dec (length file ≤ places) → listingOf (reading (take places file)) ≡ listingOf (reading file)
     by (yes h) = ap (λ f. listingOf (reading f)) (take-all places file h)

@@ -1,9 +1,17 @@
--- Bytes that were read into a buffer. Assumes nothing.
+-- Bytes that were read into a buffer. Laws are in Input/Laws.antt. Assumes nothing.
+pub mod Laws
 use mathlib.Core.List.{List}
-use Prim.Native.Nat.{ℕ, _+_, _≤_}
+use Prim.Native.Nat.{ℕ, min, _+_, _≤_}
+use lib.IntN.{ℤ, pos, negsuc}
 use lib.ListN.{length}
 use Rattle.train.specs.declared.Input.{Input}
 use Rattle.train.specs.declared.Input.the-variants.{Bytes, Failed}
+
+-- what a read into so many places returned: the number of bytes that came, never more than there are places, or a negative number for
+-- an error (`negsuc k` is −1 − k)
+abbrev pub inputOf : ℤ → ℕ → Input
+inputOf (pos count) places = Bytes (min count places)
+inputOf (negsuc k) places = Failed
 
 -- the bytes that came from a place on end within the buffer
 abbrev pub FitsBuffer : ℕ → Input → List ℕ → Type 0

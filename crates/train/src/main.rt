@@ -1,10 +1,11 @@
 // The training program: one training file on standard input, its listing on standard output (document 01, last part of "Settled examples").
 // It may use `listing` and what a file consists of, `training_file`; what it reads and writes goes through `io` and `libc`.
 
+ghost use mathlib.Core.Path.{_≡_};
 ghost use Prim.Native.Nat.{_≤_};
 ghost use lib.ListN.{length};
-ghost use Rattle.train.specs.Cut.{enough};
-ghost use Rattle.train.specs.Input.{FitsBuffer};
+ghost use Rattle.train.specs.Cut.{SameWhenCut};
+ghost use Rattle.train.specs.Input.{FitsBuffer, inputOf};
 use libc::STDERR_FILENO;
 use libc::STDIN_FILENO;
 use libc::STDOUT_FILENO;
@@ -17,23 +18,30 @@ pub enum Input {
     Failed,
 }
 
-// One read, into the buffer from a place on: how many bytes came, 0 at the end of the input.
+// What a read into these places returned: so many bytes, 0 at the end of the input, or an error.
+fn input_of(got: isize, places: &[u8]) -> Input
+    ensures { λ r. ⌜ r ≡ inputOf got (length (now (places .entry))) ⌝ }
+{
+    if got < 0 {
+        return Input::Failed;
+    }
+    Input::Bytes(io::count(got, places))
+}
+
+// One read, into the buffer from a place on.
 fn read_some(buffer: &mut [u8], from: usize) -> Input
     requires { ⌜ from ≤ length (now buffer) ⌝ }
     ensures { λ r. ⌜ FitsBuffer from r (now (buffer .entry)) ⌝ }
 {
     let rest = &mut buffer[from..];
     let got = libc::read(STDIN_FILENO, rest);
-    if got < 0 {
-        return Input::Failed;
-    }
-    Input::Bytes(io::count(got, rest))
+    input_of(got, rest)
 }
 
-// Reads until the buffer is full or the input ends. The buffer is long enough for the listing to be that of the whole input, read or not
-// (`cut-same` of specs/Cut.antt).
+// Reads until the buffer is full or the input ends. An input that is longer is cut, so the buffer has to be of a length at which that does
+// not change the listing.
 fn read_input(buffer: &mut [u8]) -> Input
-    requires { ⌜ enough ≤ length (now buffer) ⌝ }
+    requires { ⌜ SameWhenCut (length (now buffer)) ⌝ }
     ensures { λ r. ⌜ FitsBuffer 0 r (now (buffer .entry)) ⌝ }
 {
     let mut count = 0;

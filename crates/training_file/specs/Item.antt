@@ -21,6 +21,11 @@ labelAllowed byte = within 1 2 byte
 abbrev pub labelOfByte : ℕ → Label
 labelOfByte byte = cond (eqb byte 1) LookedUp PassedOver
 
+-- the byte of a label, which stands for it alone (`label-back`, `label-byte-back`)
+abbrev pub byteOfLabel : Label → ℕ
+byteOfLabel LookedUp = 1
+byteOfLabel PassedOver = 2
+
 -- the other label: document 01 has several rules in pairs, the second being the first with y = +1 and y = −1 exchanged
 abbrev pub opposite : Label → Label
 opposite LookedUp = PassedOver

@@ -40,6 +40,11 @@ kernelAllowed byte = leb byte 1
 abbrev pub kernelOfByte : ℕ → Kernel
 kernelOfByte byte = cond (eqb byte 0) Linear Square
 
+-- the byte of a kernel, which stands for it alone (`kernel-back`, `kernel-byte-back`)
+abbrev pub byteOfKernel : Kernel → ℕ
+byteOfKernel Linear = 0
+byteOfKernel Square = 1
+
 -- d ("1 to 16", the features that an item has), S, c, t and the step budget, each within its range
 unfoldable pub parametersAllowed : Parameters → Bool
 parametersAllowed p =

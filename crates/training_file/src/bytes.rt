@@ -1,4 +1,5 @@
 // Numbers out of bytes: little endian, each width from two halves, and the signed byte.
+// What they require is met by `reading`, which has judged the file's length.
 
 ghost use mathlib.Core.Path.{_≡_};
 ghost use Prim.Native.Nat.{_+_, _≤_, _<_};

@@ -1,9 +1,10 @@
 // An item: its label with sixteen signed features. The ranges of both stand here alone.
+// What `allows_all` and `of_judged` require is met by `record`.
 
 ghost use mathlib.Core.Path.{_≡_};
 ghost use lib.ListN.{length};
 ghost use Rattle.training_file.specs.declared.item.Label.the-variants.{LookedUp};
-ghost use Rattle.training_file.specs.Item.{featureAllowed, featureByteAllowed, featuresAllowed, itemOf, labelOfByte, opposite as oppositeOf, same};
+ghost use Rattle.training_file.specs.Item.{byteOfLabel, featureAllowed, featureByteAllowed, featuresAllowed, itemOf, labelOfByte, opposite as oppositeOf, same};
 ghost use Rattle.training_file.specs.Answers.{labelAnswer, labelRefusal};
 use super::bytes::signed_byte;
 use super::range::within;
@@ -45,6 +46,16 @@ impl Label {
             Label::LookedUp
         } else {
             Label::PassedOver
+        }
+    }
+
+    // The byte that a record has for it.
+    pub fn to_byte(self) -> u8
+        ensures { λ r. ⌜ r ≡ byteOfLabel self ⌝ }
+    {
+        match self {
+            Label::LookedUp => Label::LOOKED_UP,
+            Label::PassedOver => Label::PASSED_OVER,
         }
     }
 

@@ -1,6 +1,7 @@
 // The parameters of training, judged as they are made. The least and the greatest value of each field stand here alone.
 
 ghost use mathlib.Core.Path.{_≡_};
+ghost use Rattle.training_file.specs.Parameters.{byteOfKernel};
 ghost use Rattle.training_file.specs.Answers.{kernelAnswer, kernelRefusal, parametersAnswer, parametersRefusal};
 use super::item::Item;
 use super::range::within;
@@ -33,6 +34,16 @@ impl Kernel {
     pub const LINEAR: u8 = 0;
 
     pub const SQUARE: u8 = 1;
+
+    // The byte that a header has for it.
+    pub fn to_byte(self) -> u8
+        ensures { λ r. ⌜ r ≡ byteOfKernel self ⌝ }
+    {
+        match self {
+            Kernel::Linear => Kernel::LINEAR,
+            Kernel::Square => Kernel::SQUARE,
+        }
+    }
 
     // The kernel that a header names.
     pub fn from_byte(byte: u8) -> KernelAnswer

@@ -1,4 +1,5 @@
 // One record of the file: its next number, its feature bytes as a part of the file, its judgement, and its item.
+// What they require is met by `reading`, which has judged the file's length.
 
 ghost use mathlib.Core.Path.{_≡_};
 ghost use Prim.Native.Nat.{_+_, _*_, _^_, _≤_, _<_};

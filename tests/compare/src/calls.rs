@@ -1,12 +1,15 @@
 //! The calls made for one file, each answered by the library and the reference.
 
 use crate::expected;
-use crate::library::{self, CertifyAnswer, ClassifyAnswer, TrainAnswer};
+use crate::library::{self, CertifyAnswer, ClassifyAnswer, ReadAnswer, TrainAnswer};
 use crate::report::{Difference, Tally};
-use reference::file::{read, Problem};
+use reference::file::{read, Problem, MOST_RECORDS};
 use reference::generate::{caller, Random};
+use std::fmt::{Arguments, Debug};
 
-/// All calls for one file; the first difference ends them.
+/// All calls for one file; the first difference ends them. Reading comes last:
+/// so its draws change none of those of the other calls, and a difference noted
+/// with its seed and file number is met there again.
 pub fn compare(file: &[u8], random: &mut Random, tally: &mut Tally) -> Result<(), Box<Difference>> {
     let problem = read(file).ok();
     let trained = compare_train(file, problem.as_ref(), random, tally)?;
@@ -19,7 +22,62 @@ pub fn compare(file: &[u8], random: &mut Random, tally: &mut Tally) -> Result<()
         let word = draw_word(problem.as_ref(), random);
         compare_classify(file, &multipliers, &word, random, tally)?;
     }
-    Ok(())
+    compare_read(file, problem.as_ref(), random, tally)
+}
+
+/// The answer that both gave, or the difference.
+fn agreed<A: PartialEq + Debug>(
+    call: &str,
+    file: &[u8],
+    handed: Arguments,
+    expected: A,
+    answered: A,
+) -> Result<A, Box<Difference>> {
+    if expected == answered {
+        return Ok(expected);
+    }
+    Err(Difference::boxed(call, file, handed, &expected, &answered))
+}
+
+/// n, or a small number for a file that is refused.
+fn items(problem: Option<&Problem>, random: &mut Random) -> usize {
+    problem.map_or(random.below(5) as usize, |problem| problem.items.len())
+}
+
+/// Reads with a table that may be shorter or longer than n.
+fn compare_read(
+    file: &[u8],
+    problem: Option<&Problem>,
+    random: &mut Random,
+    tally: &mut Tally,
+) -> Result<(), Box<Difference>> {
+    let n = items(problem, random);
+    let places = table_length(n, random);
+    let before = ReadAnswer {
+        number: 0,
+        items: random.draw() as usize,
+        used: random.draw() as usize,
+        kernel: random.draw() as u8,
+        order: (0..places).map(|_| random.draw() as u16).collect(),
+        surroundings_kept: true,
+    };
+    let expected = expected::read(file, &before);
+    let answered = library::read(file, &before, random);
+    tally.count("read", expected.number, expected.kernel);
+    agreed(
+        "read",
+        file,
+        format_args!("order {:?}", before.order),
+        expected,
+        answered,
+    )
+    .map(drop)
+}
+
+/// Lengths around n and at the ends, and any between.
+fn table_length(n: usize, random: &mut Random) -> usize {
+    let any = random.below(MOST_RECORDS as u64) as usize;
+    random.pick(&[0, n.saturating_sub(1), n, n + 1, MOST_RECORDS, 300, any])
 }
 
 /// Trains into lists that are long enough, and on some files into a list that
@@ -30,7 +88,7 @@ fn compare_train(
     random: &mut Random,
     tally: &mut Tally,
 ) -> Result<Vec<u32>, Box<Difference>> {
-    let n = problem.map_or(random.below(5) as usize, |problem| problem.items.len());
+    let n = items(problem, random);
     if random.chance(1, 5) {
         let (multipliers, gradient) = too_short(n, random);
         compare_one_training(file, multipliers, gradient, random, tally)?;
@@ -72,17 +130,14 @@ fn compare_one_training(
     let expected = expected::train(file, &before);
     let answered = library::train(file, &before, random);
     tally.count("train", expected.number, expected.ending);
-    if expected == answered {
-        return Ok(expected.multipliers);
-    }
-    Err(Difference::boxed(
+    agreed(
         "train",
         file,
-        &before.multipliers,
-        &[],
-        &expected,
-        &answered,
-    ))
+        format_args!("multipliers {:?}", before.multipliers),
+        expected,
+        answered,
+    )
+    .map(|answer| answer.multipliers)
 }
 
 fn compare_certify(
@@ -101,17 +156,14 @@ fn compare_certify(
     let expected = expected::certify(file, multipliers, &before);
     let answered = library::certify(file, multipliers, &before, random);
     tally.count("certify", expected.number, 0);
-    if expected == answered {
-        return Ok(());
-    }
-    Err(Difference::boxed(
+    agreed(
         "certify",
         file,
-        multipliers,
-        &[],
-        &expected,
-        &answered,
-    ))
+        format_args!("multipliers {multipliers:?}"),
+        expected,
+        answered,
+    )
+    .map(drop)
 }
 
 fn compare_classify(
@@ -129,17 +181,14 @@ fn compare_classify(
     let expected = expected::classify(file, multipliers, word, &before);
     let answered = library::classify(file, multipliers, word, &before, random);
     tally.count("classify", expected.number, expected.class);
-    if expected == answered {
-        return Ok(());
-    }
-    Err(Difference::boxed(
+    agreed(
         "classify",
         file,
-        multipliers,
-        word,
-        &expected,
-        &answered,
-    ))
+        format_args!("multipliers {multipliers:?}, word {word:?}"),
+        expected,
+        answered,
+    )
+    .map(drop)
 }
 
 fn draw_multipliers(problem: Option<&Problem>, trained: &[u32], random: &mut Random) -> Vec<u32> {

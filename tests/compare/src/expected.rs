@@ -1,8 +1,17 @@
 //! What the reference expects to be seen after a call: its answer where it
 //! gives one, and what stood there before where it refuses.
 
-use crate::library::{CertifyAnswer, ClassifyAnswer, TrainAnswer};
+use crate::library::{CertifyAnswer, ClassifyAnswer, ReadAnswer, TrainAnswer};
+use reference::kernel::Kernel;
 use reference::{Class, Ending};
+
+/// "kernel: 0 linear, 1 square" of document 01's header.
+fn kernel_number(kernel: Kernel) -> u8 {
+    match kernel {
+        Kernel::Linear => 0,
+        Kernel::Square => 1,
+    }
+}
 
 /// "ending: 1 converged, 2 stuck, 3 spent" of the C interface.
 fn ending_number(ending: Ending) -> u8 {
@@ -19,6 +28,20 @@ fn class_number(class: Class) -> u8 {
         Class::LookedUp => 1,
         Class::PassedOver => 2,
     }
+}
+
+pub fn read(file: &[u8], before: &ReadAnswer) -> ReadAnswer {
+    let mut after = before.clone();
+    match reference::contents(file, &mut after.order) {
+        Err(number) => after.number = number,
+        Ok(contents) => {
+            after.number = 0;
+            after.items = contents.items;
+            after.used = contents.features;
+            after.kernel = kernel_number(contents.kernel);
+        }
+    }
+    after
 }
 
 pub fn train(file: &[u8], before: &TrainAnswer) -> TrainAnswer {

@@ -7,7 +7,7 @@
 #[path = "../../../include/lookahead.rs"]
 mod declared;
 
-use declared::{lookahead_certify, lookahead_classify, lookahead_train};
+use declared::{lookahead_certify, lookahead_classify, lookahead_read, lookahead_train};
 use reference::generate::Random;
 
 /// Places kept on either side of what is lent.
@@ -53,6 +53,17 @@ impl<T: Copy + PartialEq> Lent<T> {
     }
 }
 
+/// All that can be seen after a reading call.
+#[derive(Clone, PartialEq, Eq, Debug)]
+pub struct ReadAnswer {
+    pub number: u8,
+    pub items: usize,
+    pub used: usize,
+    pub kernel: u8,
+    pub order: Vec<u16>,
+    pub surroundings_kept: bool,
+}
+
 /// All that can be seen after a training call.
 #[derive(Clone, PartialEq, Eq, Debug)]
 pub struct TrainAnswer {
@@ -83,14 +94,36 @@ pub struct ClassifyAnswer {
     pub surroundings_kept: bool,
 }
 
+/// Calls reading on what `before` holds and gives what stands there after.
+pub fn read(file: &[u8], before: &ReadAnswer, random: &mut Random) -> ReadAnswer {
+    let file = Lent::new(file, || random.draw() as u8);
+    let mut order = Lent::new(&before.order, || random.draw() as u16);
+    let mut after = before.clone();
+    // SAFETY: every pointer is to a list of the length handed over with it, or
+    // to a place of its own.
+    after.number = unsafe {
+        lookahead_read(
+            file.read(),
+            file.length,
+            order.write(),
+            order.length,
+            &mut after.items,
+            &mut after.used,
+            &mut after.kernel,
+        )
+    };
+    after.order = order.contents();
+    after.surroundings_kept = file.kept() && order.margins_kept();
+    after
+}
+
 /// Calls training on what `before` holds and gives what stands there after.
 pub fn train(file: &[u8], before: &TrainAnswer, random: &mut Random) -> TrainAnswer {
     let file = Lent::new(file, || random.draw() as u8);
     let mut multipliers = Lent::new(&before.multipliers, || random.draw() as u32);
     let mut gradient = Lent::new(&before.gradient, || random.draw() as i64);
     let mut after = before.clone();
-    // SAFETY: every pointer is to a list of the length handed over with it, or
-    // to a place of its own.
+    // SAFETY: as in `read`.
     after.number = unsafe {
         lookahead_train(
             file.read(),
@@ -121,7 +154,7 @@ pub fn certify(
     let file = Lent::new(file, || random.draw() as u8);
     let multipliers = Lent::new(multipliers, || random.draw() as u32);
     let mut after = before.clone();
-    // SAFETY: as in `train`.
+    // SAFETY: as in `read`.
     after.number = unsafe {
         lookahead_certify(
             file.read(),
@@ -148,7 +181,7 @@ pub fn classify(
     let multipliers = Lent::new(multipliers, || random.draw() as u32);
     let word = Lent::new(word, || random.draw() as i8);
     let mut after = before.clone();
-    // SAFETY: as in `train`.
+    // SAFETY: as in `read`.
     after.number = unsafe {
         lookahead_classify(
             file.read(),

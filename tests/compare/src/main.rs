@@ -1,4 +1,4 @@
-//! Compares the library's three calls with the reference on random files.
+//! Compares the library's four calls with the reference on random files.
 //!
 //! `compare [--seed N] [--files N | --soak SECONDS | --only FILE]`: so many
 //! files, or files until the time is over, or one file by its number. The exit

@@ -2,7 +2,7 @@
 //! how often each answer was met.
 
 use std::collections::BTreeMap;
-use std::fmt::Debug;
+use std::fmt::{Arguments, Debug};
 
 pub struct Difference {
     text: String,
@@ -12,14 +12,13 @@ impl Difference {
     pub fn boxed(
         call: &str,
         file: &[u8],
-        multipliers: &[u32],
-        word: &[i8],
+        handed: Arguments,
         expected: &dyn Debug,
         answered: &dyn Debug,
     ) -> Box<Difference> {
         let hex = hex(file);
         let text = format!(
-            "difference in {call}\nfile {hex}\nmultipliers handed in {multipliers:?}\nword {word:?}\n\
+            "difference in {call}\nfile {hex}\nhanded in {handed}\n\
              reference {expected:?}\nlibrary   {answered:?}"
         );
         Box::new(Difference { text })
@@ -35,7 +34,7 @@ pub fn hex(bytes: &[u8]) -> String {
 }
 
 /// How often the reference gave each answer: by call, then by refusal, and by
-/// ending or class where there is none.
+/// kernel, ending or class where there is none.
 #[derive(Default)]
 pub struct Tally {
     counts: BTreeMap<(&'static str, u8, u8), u64>,
@@ -54,7 +53,7 @@ impl Tally {
     }
 
     pub fn print(&self) {
-        for call in ["train", "certify", "classify"] {
+        for call in ["read", "train", "certify", "classify"] {
             let of_call = self.counts.iter().filter(|(key, _)| key.0 == call);
             let parts: Vec<String> = of_call
                 .map(|(key, count)| format!("{} {count}", answer_name(*key)))
@@ -66,6 +65,8 @@ impl Tally {
 
 fn answer_name((call, refusal, answer): (&str, u8, u8)) -> String {
     match (call, refusal, answer) {
+        ("read", 0, 0) => "linear".into(),
+        ("read", 0, _) => "square".into(),
         ("train", 0, 1) => "converged".into(),
         ("train", 0, 2) => "stuck".into(),
         ("train", 0, _) => "spent".into(),

@@ -6,6 +6,7 @@
  * comparison has to find each. The list is in mutations.txt. */
 
 #include "lookahead.h"
+#include <stdlib.h>
 #include <string.h>
 
 #ifndef MUTATION
@@ -196,6 +197,43 @@ static uint8_t run(Problem *p, uint32_t *steps) {
         if (WRONG(79) && *steps + 1 == p->budget) return ++*steps, 3;
         if (WRONG(59) && *steps == 3) return 2;
     }
+}
+
+static int from_lowest(const void *u, const void *v) { return *(const int *)u - *(const int *)v; }
+
+/* The numbers of the chained records, as far as the table goes. */
+static void put_order(Problem *p, uint16_t *order, size_t len) {
+    size_t n = (size_t)p->n;
+    if (WRONG(91)) qsort(p->record, n, sizeof *p->record, from_lowest);
+    if (WRONG(92) && len < n) return;
+    for (size_t i = 0; i < n && i < len; i++) {
+        int record = p->record[WRONG(93) ? n - 1 - i : i] - WRONG(94);
+        order[i] = (uint16_t)(WRONG(95) ? record & 255 : record);
+    }
+    if (WRONG(96) && len > n) order[n] = 0;
+    if (WRONG(97) && len >= n) memset(order + n, 0, sizeof *order * (len - n));
+    if (WRONG(98)) order[len] = 0;
+}
+
+uint8_t lookahead_read(const uint8_t *file, size_t len, uint16_t *order, size_t order_len, size_t *items,
+                       size_t *used, uint8_t *kernel) {
+    Problem p;
+    uint8_t refused = read_file(&p, file, len);
+    if (WRONG(99) && (refused == 4 || refused == 5)) put_order(&p, order, order_len);
+    if (WRONG(100) && refused) *items = 0;
+    if (WRONG(101) && refused > 2) *used = file[4];
+    if (WRONG(102) && refused > 2) *kernel = file[5];
+    if (WRONG(103) && !refused && order_len < (size_t)p.n) return 6;
+    if (WRONG(104) && len > 0) ((uint8_t *)file)[len - 1] ^= 1;
+    if (refused) return refused;
+    put_order(&p, order, order_len);
+    *items = (size_t)p.n;
+    if (WRONG(105)) *items = field(file, 2);
+    if (WRONG(106) && order_len < *items) *items = order_len;
+    if (WRONG(107)) *items = order_len;
+    *used = (size_t)(WRONG(108) ? 16 : p.d);
+    *kernel = (uint8_t)(WRONG(109) ? 1 - p.kernel : WRONG(110) ? 1 + p.kernel : p.kernel);
+    return 0;
 }
 
 uint8_t lookahead_train(const uint8_t *file, size_t len, uint32_t *multipliers, size_t multipliers_len,

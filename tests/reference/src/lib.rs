@@ -8,6 +8,7 @@
 mod amount;
 mod certify;
 mod classify;
+mod contents;
 pub mod examples;
 pub mod file;
 pub mod generate;
@@ -21,6 +22,7 @@ mod training;
 
 pub use certify::certify;
 pub use classify::{classify, Class};
+pub use contents::{contents, Contents};
 pub use listing::listing;
 pub use pair::Pair;
 pub use training::{run, train, Ending, Run, Step, Trained};

@@ -6,8 +6,9 @@ use crate::examples::*;
 use crate::file::{read, MOST_RECORDS};
 use crate::generate::draft::{Draft, LOOKED_UP, PASSED_OVER};
 use crate::generate::{causes, Random};
+use crate::kernel::Kernel;
 use crate::training::{Ending, Trained};
-use crate::{certify, classify, listing, run, train, Class};
+use crate::{certify, classify, contents, listing, run, train, Class, Contents};
 
 /// Trains into lists of just n places.
 fn trained(draft: &Draft) -> (Trained, Vec<u32>, Vec<i64>) {
@@ -81,6 +82,37 @@ fn p12_classifies_as_settled() {
 fn the_example_prints_as_settled() {
     assert_eq!(listing(&three_records()), "converged 1 0 0\n3 + 5\n1 - 5\n");
     assert_eq!(listing(&[]), "refused 1\n");
+}
+
+#[test]
+fn reading_gives_the_order_as_far_as_the_table_goes() {
+    let both_items = Contents {
+        items: 2,
+        features: 1,
+        kernel: Kernel::Linear,
+    };
+    for (places, left) in [
+        (0, [9, 9, 9]),
+        (1, [3, 9, 9]),
+        (2, [3, 1, 9]),
+        (3, [3, 1, 9]),
+    ] {
+        let mut order = [9; 3];
+        let found = contents(&three_records(), &mut order[..places]);
+        assert_eq!(found, Ok(both_items));
+        assert_eq!(order, left);
+    }
+    let square = contents(&p8().plain(), &mut []).map(|read| read.kernel);
+    assert_eq!(square, Ok(Kernel::Square));
+}
+
+#[test]
+fn reading_leaves_the_table_alone_where_it_refuses() {
+    for (number, file) in causes(&mut Random::new(0)) {
+        let mut order = [9; MOST_RECORDS];
+        assert_eq!(contents(&file, &mut order), Err(number));
+        assert_eq!(order, [9; MOST_RECORDS]);
+    }
 }
 
 #[test]

@@ -10,6 +10,7 @@ use lib.ListN.{length}
 use Rattle.training_file.specs.declared.parameters.Parameters.{Parameters}
 use Rattle.training_file.specs.declared.item.Item.{Item}
 use Rattle.reading.specs.Reading.{Reading, refused, accepted, reading}
+use Rattle.reading.specs.Calls.{fileAnswer}
 use Rattle.reading.specs.Reading.Laws.{refused-within}
 use Rattle.dual_problem.specs.Problem.{Problem, problem}
 use Rattle.dual_problem.specs.Items.{at}
@@ -17,7 +18,7 @@ use Rattle.smo.specs.declared.train.Training.the-variants as training
 use Rattle.smo.specs.Train.{TrainingLeft, trainFile, trainRead}
 use Rattle.lookahead.specs.declared.classify.Classified.the-variants as classified
 use Rattle.lookahead.specs.Classify.{classifying, classifyItems, classifyJudged, classifyRead, wordAllowed}
-use Rattle.lookahead_c.specs.Refusals.{CertifyRefusals, ClassifyRefusals, TrainRefusals}
+use Rattle.lookahead_c.specs.Refusals.{CertifyRefusals, ClassifyRefusals, ReadRefusals, TrainRefusals}
 use Rattle.certifying.specs.declared.certify.Certified.the-variants as certified
 use Rattle.certifying.specs.declared.multipliers.Judgement.{Judgement}
 use Rattle.certifying.specs.declared.multipliers.Judgement.the-variants as judged
@@ -28,6 +29,13 @@ use Rattle.certifying.specs.Certify.{certifying, certifyJudged, certifyRead}
 picked : {A : Type 0} (Q : A → Type 0) (test : Bool) {x y : A} → Q x → Q y → Q (cond test x y)
 picked Q true p q = p
 picked Q false p q = q
+
+-- ---- reading: 1 to 5
+pub read-refusals : (file : List ℕ) → ReadRefusals (fileAnswer (reading file))
+read-refusals file = by (reading file) refl where
+  by : (x : Reading) → reading file ≡ x → ReadRefusals (fileAnswer x)
+  by (refused number) e = refused-within file number e
+  by (accepted p order items) e = tt
 
 -- ---- training: 1 to 6
 pub train-refusals : (file a : List ℕ) (g : List ℤ) → TrainRefusals (trainFile file a g .answer)

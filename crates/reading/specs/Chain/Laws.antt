@@ -534,27 +534,30 @@ module _ (next : ℕ → ℕ) (m first : ℕ) (rs : List ℕ) (e : chain next m 
 
 -- ---- files that agree
 
--- "numbers in spare records do not count": the walk is the same where the records reached have the same next
+passes-cons : (next : ℕ → ℕ) (m k first : ℕ) → 1 ≤ first → first ≤ m → Passes next m k (next first) → Passes next m (suc k) first
+passes-cons next m k first l h p zero b = (l, h)
+passes-cons next m k first l h p (suc j) b =
+    subst (λ (r : ℕ). (1 ≤ r) × (r ≤ m)) (after-next next j first) (p j (le-of-suc-le-suc b))
+
+-- "numbers in spare records do not count": the walk is the same where the records met have the same next
 pub walk-spare : (f g : ℕ → ℕ) (m budget first : ℕ)
-    → ((j : ℕ) → 1 ≤ after f j first → after f j first ≤ m → f (after f j first) ≡ g (after f j first))
-    → walk f m budget first ≡ walk g m budget first
+    → ((j : ℕ) → Passes f m (suc j) first → f (after f j first) ≡ g (after f j first)) → walk f m budget first ≡ walk g m budget first
 unfolding walk
 walk-spare f g m zero zero a = refl
 walk-spare f g m zero (suc r) a = refl
-walk-spare f g m (suc budget) first a = by (place m first) (walk-spare f g m budget (f first) (λ j. rw (after-next f j first) (a (suc j))))
+walk-spare f g m (suc budget) first a = by (place m first) (walk-spare f g m budget (f first))
   where
-    by : Place m first → walk f m budget (f first) ≡ walk g m budget (f first) → walk f m (suc budget) first ≡ walk g m (suc budget) first
+    by : Place m first
+        → (((j : ℕ) → Passes f m (suc j) (f first) → f (after f j (f first)) ≡ g (after f j (f first))) → walk f m budget (f first) ≡ walk g m budget (f first))
+        → walk f m (suc budget) first ≡ walk g m (suc budget) first
     by (at-end e) below = rw e
     by (over h) below = walk-over f m (suc budget) first h ∙ sym (walk-over g m (suc budget) first h)
     by (inside l h) below =
         walk-suc f m budget first l h
-        ∙ ap (front (first ∷ [])) (below ∙ ap (walk g m budget) (a 0 l h))
+        ∙ ap (front (first ∷ []))
+        (below (λ j p. rw (after-next f j first) (a (suc j) (passes-cons f m (suc j) first l h p)))
+        ∙ ap (walk g m budget) (a 0 (passes-cons f m 0 first l h (passes-zero f m (f first)))))
         ∙ sym (walk-suc g m budget first l h)
-
--- the walk is the same where all records have the same next
-pub walk-cong : (f g : ℕ → ℕ) (m budget first : ℕ) → ((r : ℕ) → 1 ≤ r → r ≤ m → f r ≡ g r)
-    → walk f m budget first ≡ walk g m budget first
-walk-cong f g m budget first a = walk-spare f g m budget first (λ j l h. a (after f j first) l h)
 
 -- ---- examples of document 01
 

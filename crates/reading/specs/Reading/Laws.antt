@@ -1,5 +1,6 @@
 -- Laws of reading: the answer by the stage that gives it. Assumes nothing.
 pub mod Accepted
+pub mod Spare
 use mathlib.Core.Path.{_≡_, refl, sym, ap, ap₂, _∙_, subst}
 use mathlib.Core.Bool.{Bool, true, false, and-false}
 use mathlib.Core.List.{List, [], _∷_, map}

@@ -6,6 +6,7 @@ use lib.ListN.{length}
 use lib.Seq.{length-take-le}
 use borrow.Author.Needs.{needs}
 use Rattle.listing.specs.Listing.Laws.{listing-within}
+use Rattle.train.specs.Cut.{cut-same}
 use Rattle.train.specs.Input.{FitsBuffer}
 use Rattle.train.proofs.main.Statement.{statement}
 use Rattle.train.proofs.main.Tie as tie
@@ -14,7 +15,7 @@ slice-aggregate-read-input : tie.Need-slice-aggregate-read-input
 slice-aggregate-read-input c = search needs
 
 read-input-requires : tie.Need-read-input-requires
-read-input-requires c κs = search needs
+read-input-requires c κs = cut-same 5153 (omega arith)
 
 enum-known-input : tie.Need-enum-known-input
 enum-known-input c = search needs

@@ -1,23 +1,40 @@
 -- Laws of items. Assumes nothing.
-use mathlib.Core.Path.{_≡_, ap, _∙_}
-use mathlib.Core.Bool.{true}
+use mathlib.Core.Path.{_≡_, refl, sym, ap, _∙_}
+use mathlib.Core.Bool.{Bool, true, false}
 use mathlib.Core.List.{List, map}
 use Prim.Native.Nat.{ℕ, _-_, _≤_, _<_}
 use native.Mathlib.Decide.{decLt}
 use native.Mathlib.Omega.{arith}
-use lib.Dec.{leb, ltb, lit≤}
+use lib.Dec.{leb, ltb, eqb, lit≤}
 use lib.IntN.{ℤ, pos, negsuc, negℤ, natAbs}
 use lib.ListN.{length, getD, List·getD-map, List·getD-eq-default}
 use lib.Signed.{leZ}
-use borrow.Author.Tests.{leb-true, eqb-true, lt-ltb, le-ltb}
+use borrow.Author.Tests.{leb-true, eqb-true, eqb-false, lt-ltb, le-ltb}
 use Rattle.integers.specs.Test.{&&-both}
 use Rattle.integers.specs.Places.Laws.{all-holds}
 use Rattle.training_file.specs.declared.item.Label.{Label}
 use Rattle.training_file.specs.declared.item.Label.the-variants.{LookedUp, PassedOver}
 use Rattle.training_file.specs.Layout.{byteAt, featureCount, signedByte}
-use Rattle.training_file.specs.Item.{featureAllowed, featureByteAllowed, featureMost, featuresAllowed, same}
+use Rattle.training_file.specs.Item.{byteOfLabel, featureAllowed, featureByteAllowed, featureMost, featuresAllowed, labelAllowed, labelOfByte, same}
+use Rattle.training_file.specs.Parameters.Laws.{within-both}
 
 -- ---- labels
+
+-- a label has an allowed byte, and each of the two is the other's
+pub label-byte-allowed : (label : Label) → labelAllowed (byteOfLabel label) ≡ true
+label-byte-allowed LookedUp = refl
+label-byte-allowed PassedOver = refl
+
+pub label-back : (label : Label) → labelOfByte (byteOfLabel label) ≡ label
+label-back LookedUp = refl
+label-back PassedOver = refl
+
+pub label-byte-back : (byte : ℕ) → labelAllowed byte ≡ true → byteOfLabel (labelOfByte byte) ≡ byte
+label-byte-back byte h = by (eqb byte 1) refl
+  where
+    by : (t : Bool) → eqb byte 1 ≡ t → byteOfLabel (labelOfByte byte) ≡ byte
+    by true e = rw e (sym (eqb-true byte 1 e))
+    by false e = let other = eqb-false byte 1 e in let range = within-both 1 2 byte h in rw e (omega arith)
 
 pub same-most : (a b : Label) → same a b ≤ 1
 same-most LookedUp LookedUp = lit≤ tt

@@ -1,17 +1,18 @@
 -- Laws of the parameters: when they are allowed, and what an answer says of its byte or its parameters. Assumes nothing.
-use mathlib.Core.Path.{_≡_}
-use mathlib.Core.Bool.{true, false, _&&_, and-false}
+use mathlib.Core.Path.{_≡_, refl, sym}
+use mathlib.Core.Bool.{Bool, true, false, _&&_, and-false}
 use Prim.Native.Nat.{ℕ, _≤_, _<_}
 use native.Mathlib.Omega.{arith}
-use lib.Dec.{leb}
-use borrow.Author.Tests.{le-leb, lt-leb, leb-true}
+use lib.Dec.{leb, eqb}
+use borrow.Author.Tests.{le-leb, lt-leb, leb-true, eqb-true, eqb-false}
 use Rattle.integers.specs.Test.{&&-both, chose-first, chose-second}
 use Rattle.training_file.specs.declared.refusal.Refusal.{Refusal}
 use Rattle.training_file.specs.declared.parameters.Kernel.{Kernel}
+use Rattle.training_file.specs.declared.parameters.Kernel.the-variants.{Linear, Square}
 use Rattle.training_file.specs.declared.parameters.KernelAnswer.the-variants.{Refused, Known}
 use Rattle.training_file.specs.declared.parameters.Parameters.{Parameters}
 use Rattle.training_file.specs.Layout.{featureCount}
-use Rattle.training_file.specs.Parameters.{Ranges, budgetMost, ceilingMost, gridMost, kernelAllowed, kernelOfByte, parametersAllowed, toleranceMost, within}
+use Rattle.training_file.specs.Parameters.{Ranges, budgetMost, byteOfKernel, ceilingMost, gridMost, kernelAllowed, kernelOfByte, parametersAllowed, toleranceMost, within}
 use Rattle.training_file.specs.Answers.{kernelAnswer}
 
 -- ---- a range
@@ -72,6 +73,23 @@ module _ (p : Parameters) where
         tolerance-greatest = within-both 0 toleranceMost (p .tolerance) (t .1) .1;
         budget-greatest = within-both 0 budgetMost (p .budget) (b .1) .1;
       }
+
+-- ---- a kernel has an allowed byte, and each of the two is the other's
+
+pub kernel-byte-allowed : (kernel : Kernel) → kernelAllowed (byteOfKernel kernel) ≡ true
+kernel-byte-allowed Linear = refl
+kernel-byte-allowed Square = refl
+
+pub kernel-back : (kernel : Kernel) → kernelOfByte (byteOfKernel kernel) ≡ kernel
+kernel-back Linear = refl
+kernel-back Square = refl
+
+pub kernel-byte-back : (byte : ℕ) → kernelAllowed byte ≡ true → byteOfKernel (kernelOfByte byte) ≡ byte
+kernel-byte-back byte h = by (eqb byte 0) refl
+  where
+    by : (t : Bool) → eqb byte 0 ≡ t → byteOfKernel (kernelOfByte byte) ≡ byte
+    by true e = rw e (sym (eqb-true byte 0 e))
+    by false e = let other = eqb-false byte 0 e in let range = leb-true byte 1 h in rw e (omega arith)
 
 -- ---- what an answer says of the byte
 

@@ -1,11 +1,22 @@
 -- `lookahead_c::certify::lookahead_certify` meets its contract: each arm has the case of the library's answer. Assumes nothing.
-use mathlib.Core.Path.{_≡_, sym, _∙_, ap}
+use mathlib.Core.Path.{_≡_, sym, _∙_, ap, subst}
+use mathlib.Core.List.{List}
+use Prim.Native.Nat.{ℕ}
 use mir.Syntax.{w64}
 use mir.Val.{toZ, ofZ}
 use borrow.Author.Needs.{needs}
-use Rattle.lookahead_c.specs.Certifying.{certifySeen}
+use Rattle.reading.specs.Reading.{reading}
+use Rattle.certifying.specs.declared.certify.Thresholds.{Thresholds}
+use Rattle.certifying.specs.Certify.{certifying}
+use Rattle.lookahead_c.specs.Certifying.{CertifySeen, SeenDistance, certifySeen}
+use Rattle.lookahead_c.specs.Certifying.Laws.{seen-distance}
 use Rattle.lookahead_c.proofs.certify.lookahead_certify.Statement.{statement}
 use Rattle.lookahead_c.proofs.certify.lookahead_certify.Tie as tie
+
+-- both clauses, by what the caller sees
+clauses : (file a : List ℕ) (before : Thresholds) {after : CertifySeen} → after ≡ certifySeen (certifying file a) before
+    → (after ≡ certifySeen (certifying file a) before) × SeenDistance (reading file) a after
+clauses file a before e = (e, subst (SeenDistance (reading file) a) (sym e) (seen-distance file a before))
 
 certify-requires : tie.Need-certify-requires
 certify-requires c κs = search needs
@@ -20,7 +31,7 @@ returns : tie.Need-returns
 returns c =
     let lent = c .before .before .before .before .before .before .args in
     let refused = sym (c .before .certified .given .1) ∙ c .before .before .before .certify .ensures .0 in
-    ap (λ x. certifySeen x (record { lower = lent .lower .now; upper = lent .upper .now })) refused
+    clauses (lent .file .now) (lent .multipliers .now) (record { lower = lent .lower .now; upper = lent .upper .now }) (ap (λ x. certifySeen x (record { lower = lent .lower .now; upper = lent .upper .now })) refused)
 
 returns-2 : tie.Need-returns-2
 returns-2 c =
@@ -29,8 +40,9 @@ returns-2 c =
     let thresholds = c .before .before .before .certified2 .given .0 .0 in
     let lower : toZ w64 (ofZ w64 (thresholds .lower)) ≡ thresholds .lower = search needs in
     let upper : toZ w64 (ofZ w64 (thresholds .upper)) ≡ thresholds .upper = search needs in
-    (λ k. record { number = 0; found = record { lower = lower k; upper = upper k } })
-    ∙ ap (λ x. certifySeen x (record { lower = lent .lower .now; upper = lent .upper .now })) found
+    clauses (lent .file .now) (lent .multipliers .now) (record { lower = lent .lower .now; upper = lent .upper .now })
+    ((λ k. record { number = 0; found = record { lower = lower k; upper = upper k } })
+    ∙ ap (λ x. certifySeen x (record { lower = lent .lower .now; upper = lent .upper .now })) found)
 
 pub lookahead-certify-spec : {M : Type 1} → statement M
 lookahead-certify-spec =

@@ -1,11 +1,16 @@
 -- `lookahead_c::train::lookahead_train` meets its contract: each arm has the case of the library's answer. Assumes nothing.
-use mathlib.Core.Path.{_≡_, sym, _∙_, ap}
+use mathlib.Core.List.{List}
+use mathlib.Core.Path.{_≡_, sym, _∙_, subst}
+use Prim.Native.Nat.{ℕ}
+use lib.IntN.{ℤ}
 use mir.Syntax.{w64}
 use mir.Val.{toZ, ofZ}
 use borrow.Author.Needs.{needs}
+use Rattle.reading.specs.Reading.{reading}
 use Rattle.smo.specs.declared.train.Training.{Training}
 use Rattle.smo.specs.Train.{trainFile}
-use Rattle.lookahead_c.specs.Training.{TrainNumbers, trainSeen}
+use Rattle.lookahead_c.specs.Training.{SeenQuality, TrainNumbers, TrainSeen, trainSeen}
+use Rattle.lookahead_c.specs.Training.Laws.{seen-quality}
 use Rattle.lookahead_c.proofs.train.lookahead_train.Statement.{statement}
 use Rattle.lookahead_c.proofs.train.lookahead_train.Tie as tie
 
@@ -35,11 +40,16 @@ seen c before told =
     let left = c .train .ensures .0 in
     λ k. trainSeen (record { answer = (sym told ∙ (λ i. left i .answer)) k; multipliers = left k .multipliers; gradient = left k .gradient }) before
 
+-- both clauses, by what the caller sees
+clauses : (file a : List ℕ) (g : List ℤ) (before : TrainNumbers) {after : TrainSeen} → after ≡ trainSeen (trainFile file a g) before
+    → (after ≡ trainSeen (trainFile file a g) before) × SeenQuality (reading file) after
+clauses file a g before e = (e, subst (SeenQuality (reading file)) (sym e) (seen-quality file a g before))
+
 returns : tie.Need-returns
 returns c =
     let lent = c .before .before .before .before .before .before .before .before .before .before .before .args in
-    seen (c .before .before .before .before .before .before) (record { ending = lent .ending .now; steps = lent .steps .now; lower = lent .lower .now; upper = lent .upper .now })
-    (c .before .training .given .1)
+    let before : TrainNumbers = record { ending = lent .ending .now; steps = lent .steps .now; lower = lent .lower .now; upper = lent .upper .now } in
+    clauses (lent .file .now) (lent .multipliers .now) (lent .gradient .now) before (seen (c .before .before .before .before .before .before) before (c .before .training .given .1))
 
 same-length-3 : tie.Need-same-length-3
 same-length-3 c = search needs
@@ -54,14 +64,15 @@ returns-2 c =
     let result = c .before .before .before .before .training2 .given .0 .0 in
     let lower : toZ w64 (ofZ w64 (result .lower)) ≡ result .lower = search needs in
     let upper : toZ w64 (ofZ w64 (result .upper)) ≡ result .upper = search needs in
-    (λ k. record {
+    let before : TrainNumbers = record { ending = lent .ending .now; steps = lent .steps .now; lower = lent .lower .now; upper = lent .upper .now } in
+    clauses (lent .file .now) (lent .multipliers .now) (lent .gradient .now) before
+    ((λ k. record {
       number = 0;
       multipliers = trained .train .last .1 .0;
       gradient = trained .train .last .1 .1 .0;
       found = record { ending = c .ending-number .ensures k; steps = result .steps; lower = lower k; upper = upper k };
     })
-    ∙ seen trained (record { ending = lent .ending .now; steps = lent .steps .now; lower = lent .lower .now; upper = lent .upper .now })
-    (c .before .before .before .before .training2 .given .1)
+    ∙ seen trained before (c .before .before .before .before .training2 .given .1))
 
 pub lookahead-train-spec : {M : Type 1} → statement M
 lookahead-train-spec =

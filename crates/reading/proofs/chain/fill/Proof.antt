@@ -1,12 +1,12 @@
 -- `reading::chain::fill` meets its contract. The loop's invariant: the record is the one at its place of the order, and
 -- the table has the order up to that place. The measure is how many places are left. Assumes nothing.
-use mathlib.Core.Path.{_≡_, refl, ap, _∙_}
+use mathlib.Core.Path.{_≡_, refl, _∙_}
 use mathlib.Core.List.{_++_}
 use Prim.Native.Nat.{_-_, _≤_, _<_}
 use native.Mathlib.Omega.{arith}
 use lib.ListN.{length, getD, take, drop, length-set}
 use borrow.Author.Needs.{needs, scaled-fits}
-use Rattle.reading.specs.Stages.{orderOf, stepNext}
+use Rattle.reading.specs.Stages.{orderOf}
 use Rattle.reading.specs.Stages.Laws.{fill-done, fill-more, order-first, order-next, order-within}
 use Rattle.reading.proofs.chain.fill.Statement.{statement}
 use Rattle.reading.proofs.chain.fill.Tie as tie
@@ -50,11 +50,8 @@ mul-table c = scaled-fits _ _ _ (of-table c) (c .before .before .before .before 
 slice-write-table : tie.Need-slice-write-table Inv-loop μ-loop
 slice-write-table c = let h = of-table c in omega arith
 
-step-from-requires : tie.Need-step-from-requires Inv-loop μ-loop
-step-from-requires c κs = search needs
-
-next-requires : tie.Need-next-requires Inv-loop μ-loop
-next-requires c κs = search needs
+next-from-requires : tie.Need-next-from-requires Inv-loop μ-loop
+next-from-requires c κs = search needs
 
 add-position : tie.Need-add-position Inv-loop μ-loop
 add-position c = search needs
@@ -64,10 +61,10 @@ loop-less c = search needs
 
 loop-again : tie.Need-loop-again Inv-loop μ-loop
 loop-again c =
-    let turn = c .before .before in
+    let turn = c .before in
     let start = turn .before .before .before .before .before .before in
     let h = of-chain turn in (
-      c .next .ensures ∙ ap stepNext (c .before .step-from .ensures) ∙ order-next _ _ (start .pre) _ _ h (turn .before .loop .inv .0),
+      c .next-from .ensures ∙ order-next _ _ (start .pre) _ _ h (turn .before .loop .inv .0),
       omega arith,
       simp length-set (turn .before .loop .inv .2),
       rw (turn .before .loop .inv .3) (fill-more _ _ _ _ (omega (arith, start .pre .counted)) (of-table turn) (turn .before .loop .inv .0)),
@@ -95,8 +92,7 @@ fill-spec =
     cast-table
     mul-table
     slice-write-table
-    step-from-requires
-    next-requires
+    next-from-requires
     add-position
     loop-less
     loop-again

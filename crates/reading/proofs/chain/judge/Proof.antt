@@ -12,7 +12,7 @@ use Rattle.training_file.specs.Answers.{labelRefusal, recordAnswer}
 use Rattle.training_file.specs.Item.Laws.{same-most}
 use Rattle.training_file.specs.Record.Laws.{answer-known, answer-refused}
 use Rattle.reading.specs.declared.count.Count.the-variants.{Refused}
-use Rattle.reading.specs.Stages.{judgeAnswer, orderOf, stepNext}
+use Rattle.reading.specs.Stages.{judgeAnswer, orderOf}
 use Rattle.reading.specs.Stages.Laws.{judge-allowed, judge-none, judge-refused, order-first, order-next, order-stored}
 use Rattle.reading.proofs.chain.judge.Statement.{statement}
 use Rattle.reading.proofs.chain.judge.Tie as tie
@@ -73,11 +73,8 @@ looked-up-requires c κs = search needs
 add-looked-up : tie.Need-add-looked-up Inv-loop μ-loop
 add-looked-up c = let m = most c in omega arith
 
-step-from-requires : tie.Need-step-from-requires Inv-loop μ-loop
-step-from-requires c κs = search needs
-
-next-requires : tie.Need-next-requires Inv-loop μ-loop
-next-requires c κs = search needs
+next-from-requires : tie.Need-next-from-requires Inv-loop μ-loop
+next-from-requires c κs = search needs
 
 add-position : tie.Need-add-position Inv-loop μ-loop
 add-position c = search needs
@@ -87,11 +84,11 @@ loop-less c = search needs
 
 loop-again : tie.Need-loop-again Inv-loop μ-loop
 loop-again c =
-    let counted = c .before .before in
+    let counted = c .before in
     let m = most counted in
     let judged = counted .before .before .before .before in
     let allowed = answer-known _ _ _ _ (sym (answered judged) ∙ counted .before .before .answer .given .1) in (
-      c .next .ensures ∙ ap stepNext (c .before .step-from .ensures) ∙ order-next _ _ (judged .before .before .before .before .before .pre) _ _ (judged .before .loop-test .taken) (judged .before .before .loop .inv .0),
+      c .next-from .ensures ∙ order-next _ _ (judged .before .before .before .before .before .pre) _ _ (judged .before .loop-test .taken) (judged .before .before .loop .inv .0),
       omega arith,
       omega arith,
       judged .before .before .loop .inv .3
@@ -120,8 +117,7 @@ judge-spec =
     returns
     looked-up-requires
     add-looked-up
-    step-from-requires
-    next-requires
+    next-from-requires
     add-position
     loop-less
     loop-again

@@ -1,11 +1,40 @@
 //! The reference itself behind the C interface: a comparison with it can find no
 //! difference, and shows that a Rust static library can be linked.
 
+use reference::kernel::Kernel;
 use reference::{Class, Ending};
 use std::slice;
 
 /// # Safety
 /// The pointers are to lists of the lengths given, or to single places.
+#[no_mangle]
+pub unsafe extern "C" fn lookahead_read(
+    file: *const u8,
+    file_len: usize,
+    order: *mut u16,
+    order_len: usize,
+    items: *mut usize,
+    used: *mut usize,
+    kernel: *mut u8,
+) -> u8 {
+    let file = slice::from_raw_parts(file, file_len);
+    let order = slice::from_raw_parts_mut(order, order_len);
+    match reference::contents(file, order) {
+        Err(number) => number,
+        Ok(contents) => {
+            *items = contents.items;
+            *used = contents.features;
+            *kernel = match contents.kernel {
+                Kernel::Linear => 0,
+                Kernel::Square => 1,
+            };
+            0
+        }
+    }
+}
+
+/// # Safety
+/// As for reading.
 #[no_mangle]
 pub unsafe extern "C" fn lookahead_train(
     file: *const u8,
@@ -38,7 +67,7 @@ pub unsafe extern "C" fn lookahead_train(
 }
 
 /// # Safety
-/// As for training.
+/// As for reading.
 #[no_mangle]
 pub unsafe extern "C" fn lookahead_certify(
     file: *const u8,
@@ -61,7 +90,7 @@ pub unsafe extern "C" fn lookahead_certify(
 }
 
 /// # Safety
-/// As for training.
+/// As for reading.
 #[no_mangle]
 pub unsafe extern "C" fn lookahead_classify(
     file: *const u8,

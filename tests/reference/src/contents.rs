@@ -1,0 +1,29 @@
+//! Reading alone: what a caller can know of a file ahead of a training.
+
+use crate::file::read;
+use crate::kernel::Kernel;
+
+/// n, d and the kernel of an accepted file.
+#[derive(Clone, Copy, PartialEq, Eq, Debug)]
+pub struct Contents {
+    /// n, the chained records.
+    pub items: usize,
+    /// d, features in use.
+    pub features: usize,
+    pub kernel: Kernel,
+}
+
+/// Reads the file. The first n places of the lent table hold the numbers of the
+/// chained records in chain order, as far as it has places; on a refusal nothing
+/// lent changes.
+pub fn contents(file: &[u8], order: &mut [u16]) -> Result<Contents, u8> {
+    let problem = read(file)?;
+    for (place, item) in order.iter_mut().zip(&problem.items) {
+        *place = item.record.try_into().expect("m is at most 256");
+    }
+    Ok(Contents {
+        items: problem.items.len(),
+        features: problem.parameters.features,
+        kernel: problem.parameters.kernel,
+    })
+}
