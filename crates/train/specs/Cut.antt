@@ -26,12 +26,12 @@ long-refused file h = by (lengthAllowed file) refl
     by true e = let held = allowed-whole file e in absurd (omega arith)
 
 -- the listing of every file is that of its first bytes, so many as there are places
-abbrev pub SameWhenCut : ℕ → Type 0
-SameWhenCut places = (file : List ℕ) → listingOf (reading (take places file)) ≡ listingOf (reading file)
+pub record SameWhenCut (places : ℕ) : Type 0 where
+  pub same : (file : List ℕ) → listingOf (reading (take places file)) ≡ listingOf (reading file)
 
 pub cut-same : (places : ℕ) → enough ≤ places → SameWhenCut places
-cut-same places l file = by (decLe (length file) places)
+cut-same places l = record { same = λ file. by file (decLe (length file) places) }
   where
-    by : Dec (length file ≤ places) → listingOf (reading (take places file)) ≡ listingOf (reading file)
-    by (yes h) = ap (λ f. listingOf (reading f)) (take-all places file h)
-    by (no h) = ap listingOf (long-refused (take places file) (omega (arith, length-take-le places file (omega arith))) ∙ sym (long-refused file (omega arith)))
+    by : (file : List ℕ) → Dec (length file ≤ places) → listingOf (reading (take places file)) ≡ listingOf (reading file)
+    by file (yes h) = ap (λ f. listingOf (reading f)) (take-all places file h)
+    by file (no h) = ap listingOf (long-refused (take places file) (omega (arith, length-take-le places file (omega arith))) ∙ sym (long-refused file (omega arith)))

@@ -4,7 +4,8 @@
 ghost use mathlib.Core.Path.{_≡_};
 ghost use lib.ListN.{length};
 ghost use Rattle.training_file.specs.declared.item.Label.the-variants.{LookedUp};
-ghost use Rattle.training_file.specs.Item.{byteOfLabel, featureAllowed, featureByteAllowed, featuresAllowed, itemOf, labelOfByte, opposite as oppositeOf, same};
+ghost use Rattle.training_file.specs.Item.{byteOfLabel, labelOfByte, opposite as oppositeOf, same};
+ghost use Rattle.training_file.specs.Item.{featureAllowed, featureByteAllowed, featuresAllowed, itemOf};
 ghost use Rattle.training_file.specs.Answers.{labelAnswer, labelRefusal};
 use super::bytes::signed_byte;
 use super::range::within;

@@ -40,16 +40,17 @@ seen c before told =
     let left = c .train .ensures .0 in
     λ k. trainSeen (record { answer = (sym told ∙ (λ i. left i .answer)) k; multipliers = left k .multipliers; gradient = left k .gradient }) before
 
--- both clauses, by what the caller sees
-clauses : (file a : List ℕ) (g : List ℤ) (before : TrainNumbers) {after : TrainSeen} → after ≡ trainSeen (trainFile file a g) before
-    → (after ≡ trainSeen (trainFile file a g) before) × SeenQuality (reading file) after
-clauses file a g before e = (e, subst (SeenQuality (reading file)) (sym e) (seen-quality file a g before))
+-- the second clause, by the first
+quality : (file a : List ℕ) (g : List ℤ) (before : TrainNumbers) {after : TrainSeen} → after ≡ trainSeen (trainFile file a g) before
+    → SeenQuality (reading file) after
+quality file a g before e = subst (SeenQuality (reading file)) (sym e) (seen-quality file a g before)
 
 returns : tie.Need-returns
 returns c =
     let lent = c .before .before .before .before .before .before .before .before .before .before .before .args in
     let before : TrainNumbers = record { ending = lent .ending .now; steps = lent .steps .now; lower = lent .lower .now; upper = lent .upper .now } in
-    clauses (lent .file .now) (lent .multipliers .now) (lent .gradient .now) before (seen (c .before .before .before .before .before .before) before (c .before .training .given .1))
+    let told = seen (c .before .before .before .before .before .before) before (c .before .training .given .1) in
+    (told, quality (lent .file .now) (lent .multipliers .now) (lent .gradient .now) before told)
 
 same-length-3 : tie.Need-same-length-3
 same-length-3 c = search needs
@@ -65,14 +66,16 @@ returns-2 c =
     let lower : toZ w64 (ofZ w64 (result .lower)) ≡ result .lower = search needs in
     let upper : toZ w64 (ofZ w64 (result .upper)) ≡ result .upper = search needs in
     let before : TrainNumbers = record { ending = lent .ending .now; steps = lent .steps .now; lower = lent .lower .now; upper = lent .upper .now } in
-    clauses (lent .file .now) (lent .multipliers .now) (lent .gradient .now) before
-    ((λ k. record {
+    let told =
+    (λ k. record {
       number = 0;
       multipliers = trained .train .last .1 .0;
       gradient = trained .train .last .1 .1 .0;
       found = record { ending = c .ending-number .ensures k; steps = result .steps; lower = lower k; upper = upper k };
     })
-    ∙ seen trained before (c .before .before .before .before .training2 .given .1))
+    ∙ seen trained before (c .before .before .before .before .training2 .given .1)
+    in
+    (told, quality (lent .file .now) (lent .multipliers .now) (lent .gradient .now) before told)
 
 pub lookahead-train-spec : {M : Type 1} → statement M
 lookahead-train-spec =
