@@ -8,10 +8,10 @@ ghost use Rattle.dual_problem.specs.Items.{Listed, MultipliersListed, at, probl
 ghost use Rattle.certifying.specs.Certify.{CertifiedDistance, certifyItems, certifying, thresholdsOf};
 use super::multipliers::Judgement;
 use super::multipliers::judge;
-use super::thresholds::find_extremes;
 use dual_problem::gradient::fill_gradient;
 use reading::reader;
 use reading::reader::FileAnswer;
+use thresholds::extremes::find_extremes;
 use training_file::item::Item;
 use training_file::parameters::Parameters;
 use training_file::refusal::Refusal;

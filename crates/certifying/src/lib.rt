@@ -1,6 +1,5 @@
-// Certifying (document 01): judged multipliers, the up and the low set, the two thresholds, and the call. It may use `integers`,
-// `training_file`, `reading` and `dual_problem`.
+// Certifying (document 01): the multipliers judged, and the call. It may use `integers`, `training_file`, `reading`, `dual_problem` and
+// `thresholds`.
 
 pub mod certify;
 pub mod multipliers;
-pub mod thresholds;

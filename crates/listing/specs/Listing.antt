@@ -19,10 +19,10 @@ use Rattle.dual_problem.specs.Items.{at}
 use Rattle.smo.specs.declared.ending.Ending.{Ending}
 use Rattle.smo.specs.declared.ending.Ending.the-variants.{Converged, Stuck, Spent}
 use Rattle.smo.specs.declared.run.Trained.{Trained}
-use Rattle.smo.specs.declared.train.Training.{Training}
-use Rattle.smo.specs.declared.train.Training.the-variants.{Refused, Ended}
 use Rattle.smo.specs.Run.{training}
 use Rattle.smo.specs.Answer.{trainedOf}
+use Rattle.training.specs.declared.train.Training.{Training}
+use Rattle.training.specs.declared.train.Training.the-variants.{Refused, Ended}
 use Rattle.text.specs.Decimal.{decimal, signedDecimal}
 
 -- `converged`, `stuck`, `spent`

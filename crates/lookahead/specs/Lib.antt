@@ -1,3 +1,2 @@
--- Document 01: what classifying answers, and the settled examples. Assumes nothing.
-pub mod Classify
+-- Document 01: the settled examples. Assumes nothing.
 pub mod Settled

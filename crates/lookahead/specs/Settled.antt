@@ -15,25 +15,26 @@ use Rattle.training_file.specs.Refusal.{refusal}
 use Rattle.training_file.specs.Parameters.{parametersAllowed}
 use Rattle.training_file.specs.Item.{featuresAllowed}
 use Rattle.training_file.specs.Record.{recordAllowed}
+use Rattle.chain.specs.Chain.{walk}
+use Rattle.chain.specs.Records.{every, labelled}
 use Rattle.reading.specs.Header.{headerAllowed, lengthAllowed}
-use Rattle.reading.specs.Chain.{walk}
-use Rattle.reading.specs.Reading.{Reading, refused, accepted, every, labelled, reading}
+use Rattle.reading.specs.Reading.{Reading, refused, accepted, reading}
 use Rattle.dual_problem.specs.Problem.{Problem, problem, gradient, doubleSum, objective}
 use Rattle.dual_problem.specs.Items.{at}
-use Rattle.smo_step.specs.Step.{amount, firstCandidate, moves, workingPair}
-use Rattle.smo_step.specs.Step.Laws.WorkingPair.{iLow, iUp}
-use Rattle.smo.specs.declared.ending.Ending.{Ending}
-use Rattle.smo.specs.declared.ending.Ending.the-variants.{Converged, Stuck, Spent}
-use Rattle.smo.specs.declared.train.Training.the-variants.{Ended}
-use Rattle.smo.specs.Run.{next, run}
-use Rattle.smo.specs.Train.{TrainingLeft, trainFile}
-use Rattle.lookahead.specs.declared.classify.Class.the-variants.{LookedUp, PassedOver}
-use Rattle.lookahead.specs.declared.classify.Classified.{Classified}
-use Rattle.lookahead.specs.declared.classify.Classified.the-variants.{Is}
-use Rattle.lookahead.specs.Classify.{classifying, score, scoreWith}
 use Rattle.certifying.specs.declared.certify.Certified.{Certified}
 use Rattle.certifying.specs.declared.certify.Certified.the-variants as certified
 use Rattle.certifying.specs.Certify.{certifying}
+use Rattle.working_pair.specs.Step.{amount, firstCandidate, moves, workingPair}
+use Rattle.working_pair.specs.Step.Laws.WorkingPair.{iLow, iUp}
+use Rattle.smo.specs.declared.ending.Ending.{Ending}
+use Rattle.smo.specs.declared.ending.Ending.the-variants.{Converged, Stuck, Spent}
+use Rattle.smo.specs.Run.{next, run}
+use Rattle.training.specs.declared.train.Training.the-variants.{Ended}
+use Rattle.training.specs.Train.{TrainingLeft, trainFile}
+use Rattle.classifying.specs.declared.classify.Class.the-variants.{LookedUp, PassedOver}
+use Rattle.classifying.specs.declared.classify.Classified.{Classified}
+use Rattle.classifying.specs.declared.classify.Classified.the-variants.{Is}
+use Rattle.classifying.specs.Classify.{classifying, score, scoreWith}
 
 -- ---- the files, byte for byte: d 1; kernel, S, c, t, budget (each below 256); records chained in their order, by label and feature byte
 abbrev header : (m kernel S c t budget : ℕ) → List ℕ

@@ -1,110 +1,12 @@
-// Classifying: whether a word is one to be looked up, by a training file and multipliers (document 01, "The step").
+// Classifying, as the modules of the reader call it.
 
 ghost use mathlib.Core.Path.{_≡_};
-ghost use Rattle.training_file.specs.Parameters.{Ranges};
-ghost use Rattle.reading.specs.Reading.{reading};
-ghost use Rattle.reading.specs.Calls.{itemsIn};
-ghost use Rattle.dual_problem.specs.Items.{Listed, at};
-ghost use Rattle.lookahead.specs.Classify.{Scorable, classOf, classifyItems, classifying, scoreWith};
-use super::word::word_allowed;
-use super::word::word_item;
-use certifying::certify::Thresholds;
-use certifying::certify::find_thresholds;
-use certifying::multipliers::Judgement;
-use certifying::multipliers::judge;
-use dual_problem::gradient::weighed_sum;
-use reading::reader;
-use reading::reader::FileAnswer;
-use training_file::item::Item;
-use training_file::parameters::Parameters;
-use training_file::refusal::Refusal;
+ghost use Rattle.classifying.specs.Classify.{classifying};
+use classifying::classify::Classified;
 
-// What classifying says of a word. A label is what the log says of one, so this is an enum of its own.
-pub enum Class {
-    LookedUp,
-    PassedOver,
-}
-
-impl Class {
-    pub fn of_score(score: i64) -> Class
-        ensures { λ r. ⌜ r ≡ classOf score ⌝ }
-    {
-        if 0 < score {
-            Class::LookedUp
-        } else {
-            Class::PassedOver
-        }
-    }
-}
-
-pub enum Classified {
-    Refused(Refusal),
-    Is(Class),
-}
-
-// The doubled score of a word, with the thresholds of the multipliers, which the caller has worked out.
-fn find_score(
-    file: &[u8],
-    order: &[u16],
-    count: usize,
-    parameters: Parameters,
-    multipliers: &[u32],
-    thresholds: Thresholds,
-    word: &[i8],
-) -> i64
-    requires { ⌜ Scorable (now file) (now order) count parameters (now multipliers) thresholds (now word) ⌝ }
-    ensures { λ r.
-        ⌜ r ≡ scoreWith parameters (itemsIn (reading (now (file .entry)))) (at (now (multipliers .entry))) thresholds (now (word .entry)) ⌝ }
-{
-    let x = word_item(word);
-    let sum = weighed_sum(file, order, count, parameters, multipliers, x);
-    2 * sum - (thresholds.lower + thresholds.upper)
-}
-
-// A word by the multipliers of a file that was read. The word's length and the number of multipliers are refused with one number,
-// so that the word's can be tested ahead of the judging, which tests the other.
-fn classify_read(
-    file: &[u8],
-    order: &[u16],
-    count: usize,
-    parameters: Parameters,
-    multipliers: &[u32],
-    word: &[i8],
-) -> Classified
-    requires { ⌜ Listed (now file) (now order) count × Ranges parameters ⌝ }
-    ensures { λ r. ⌜ r ≡ classifyItems parameters (itemsIn (reading (now (file .entry)))) (now (multipliers .entry)) (now (word .entry)) ⌝ }
-{
-    if word.len() != parameters.used {
-        return Classified::Refused(Refusal::LIST_LENGTH);
-    }
-    let judgement = judge(file, order, count, parameters, multipliers);
-    let Judgement::Feasible = judgement else {
-        return Classified::Refused(judgement.refusal());
-    };
-    if !word_allowed(word) {
-        return Classified::Refused(Refusal::WORD_FEATURE);
-    }
-    let thresholds = find_thresholds(file, order, count, parameters, multipliers);
-    let score = find_score(
-        file,
-        order,
-        count,
-        parameters,
-        multipliers,
-        thresholds,
-        word,
-    );
-    Classified::Is(Class::of_score(score))
-}
-
-// Any file, any multipliers and any word.
+// Whether a word is one to be looked up, by any multipliers of any file, or the refusal.
 pub fn classify(file: &[u8], multipliers: &[u32], word: &[i8]) -> Classified
     ensures { λ r. ⌜ r ≡ classifying (now (file .entry)) (now (multipliers .entry)) (now (word .entry)) ⌝ }
 {
-    let mut order = [0u16; Item::MAX_COUNT];
-    let answer = reader::order(file, &mut order);
-    let FileAnswer::Accepted(parameters, count) = answer else {
-        return Classified::Refused(answer.refusal());
-    };
-    classify_read(file, &order, count, parameters, multipliers, word)
+    classifying::classify::classify(file, multipliers, word)
 }

@@ -5,17 +5,16 @@ pub mod certify;
 pub mod classify;
 pub mod read;
 pub mod train;
-mod word;
 
 // The types of the answers, by the name of this library.
 pub use certifying::certify::Certified;
 pub use certifying::certify::Thresholds;
-pub use classify::Class;
-pub use classify::Classified;
+pub use classifying::classify::Class;
+pub use classifying::classify::Classified;
 pub use reading::reader::FileAnswer;
 pub use smo::ending::Ending;
 pub use smo::run::Trained;
-pub use smo::train::Training;
+pub use training::train::Training;
 pub use training_file::parameters::Kernel;
 pub use training_file::parameters::Parameters;
 pub use training_file::refusal::Refusal;

@@ -2,8 +2,8 @@
 
 ghost use mathlib.Core.Path.{_≡_};
 ghost use Rattle.reading.specs.Reading.{reading};
-ghost use Rattle.smo.specs.Train.{TrainingQuality, trainFile};
-use smo::train::Training;
+ghost use Rattle.training.specs.Train.{TrainingQuality, trainFile};
+use training::train::Training;
 
 // Trains any file from zeros. The first n places of both lent lists hold the final multipliers and G; on a refusal both keep their
 // contents.
@@ -13,5 +13,5 @@ pub fn train(file: &[u8], multipliers: &mut [u32], gradient: &mut [i64]) -> Trai
         ≡ trainFile (now (file .entry)) (now (multipliers .entry)) (now (gradient .entry)) ⌝ }
     ensures quality { λ r. ⌜ TrainingQuality (reading (now (file .entry))) r (now (multipliers .exit)) ⌝ }
 {
-    smo::train::train(file, multipliers, gradient)
+    training::train::train(file, multipliers, gradient)
 }

@@ -1,7 +1,7 @@
 -- What a call for classifying answers in C, by what the library answers. Assumes nothing.
 use Prim.Native.Nat.{ℕ}
-use Rattle.lookahead.specs.declared.classify.Classified.{Classified}
-use Rattle.lookahead.specs.declared.classify.Classified.the-variants.{Refused, Is}
+use Rattle.classifying.specs.declared.classify.Classified.{Classified}
+use Rattle.classifying.specs.declared.classify.Classified.the-variants.{Refused, Is}
 use Rattle.lookahead_c.specs.Numbering.{classNumber}
 
 -- 0, or the refusal's number

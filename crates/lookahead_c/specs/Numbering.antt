@@ -3,8 +3,8 @@
 use Prim.Native.Nat.{ℕ}
 use Rattle.smo.specs.declared.ending.Ending.{Ending}
 use Rattle.smo.specs.declared.ending.Ending.the-variants.{Converged, Stuck, Spent}
-use Rattle.lookahead.specs.declared.classify.Class.{Class}
-use Rattle.lookahead.specs.declared.classify.Class.the-variants.{LookedUp, PassedOver}
+use Rattle.classifying.specs.declared.classify.Class.{Class}
+use Rattle.classifying.specs.declared.classify.Class.the-variants.{LookedUp, PassedOver}
 
 abbrev pub endingNumber : Ending → ℕ
 endingNumber Converged = 1

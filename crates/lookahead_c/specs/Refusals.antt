@@ -4,12 +4,12 @@ pub mod Laws
 use Prim.Native.Nat.{_≤_}
 use Rattle.reading.specs.declared.reader.FileAnswer.{FileAnswer}
 use Rattle.reading.specs.declared.reader.FileAnswer.the-variants as read
-use Rattle.smo.specs.declared.train.Training.{Training}
-use Rattle.smo.specs.declared.train.Training.the-variants as training
-use Rattle.lookahead.specs.declared.classify.Classified.{Classified}
-use Rattle.lookahead.specs.declared.classify.Classified.the-variants as classified
 use Rattle.certifying.specs.declared.certify.Certified.{Certified}
 use Rattle.certifying.specs.declared.certify.Certified.the-variants as certified
+use Rattle.training.specs.declared.train.Training.{Training}
+use Rattle.training.specs.declared.train.Training.the-variants as training
+use Rattle.classifying.specs.declared.classify.Classified.{Classified}
+use Rattle.classifying.specs.declared.classify.Classified.the-variants as classified
 
 -- reading: 1 to 5
 abbrev pub ReadRefusals : FileAnswer → Type 0

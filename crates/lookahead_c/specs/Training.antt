@@ -10,9 +10,9 @@ use Rattle.training_file.specs.declared.item.Item.{Item}
 use Rattle.reading.specs.Reading.{Reading, refused, accepted}
 use Rattle.dual_problem.specs.Problem.{problem}
 use Rattle.smo.specs.declared.ending.Ending.{Ending}
-use Rattle.smo.specs.declared.train.Training.{Training}
-use Rattle.smo.specs.declared.train.Training.the-variants.{Refused, Ended}
-use Rattle.smo.specs.Train.{ResultQuality, TrainingLeft}
+use Rattle.training.specs.declared.train.Training.{Training}
+use Rattle.training.specs.declared.train.Training.the-variants.{Refused, Ended}
+use Rattle.training.specs.Train.{ResultQuality, TrainingLeft}
 use Rattle.lookahead_c.specs.Numbering.{endingNumber}
 
 -- 0, or the refusal's number

@@ -1,9 +1,9 @@
 // Certifying, for C.
 
 ghost use mathlib.Core.Path.{_≡_};
-ghost use Rattle.lookahead_c.specs.Certifying.{SeenDistance, certifySeen};
 ghost use Rattle.reading.specs.Reading.{reading};
 ghost use Rattle.certifying.specs.Certify.{certifying};
+ghost use Rattle.lookahead_c.specs.Certifying.{SeenDistance, certifySeen};
 use lookahead::Certified;
 
 // Both thresholds are written, or neither: a refusal leaves them as they were.

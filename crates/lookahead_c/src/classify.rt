@@ -1,7 +1,7 @@
 // Classifying, for C.
 
 ghost use mathlib.Core.Path.{_≡_};
-ghost use Rattle.lookahead.specs.Classify.{classifying};
+ghost use Rattle.classifying.specs.Classify.{classifying};
 ghost use Rattle.lookahead_c.specs.Classifying.{classifySeen};
 use super::numbering::class_number;
 use lookahead::Classified;

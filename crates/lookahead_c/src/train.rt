@@ -2,7 +2,7 @@
 
 ghost use mathlib.Core.Path.{_≡_};
 ghost use Rattle.reading.specs.Reading.{reading};
-ghost use Rattle.smo.specs.Train.{trainFile};
+ghost use Rattle.training.specs.Train.{trainFile};
 ghost use Rattle.lookahead_c.specs.Training.{SeenQuality, trainSeen};
 use super::numbering::ending_number;
 use lookahead::Training;

@@ -1,13 +1,14 @@
 -- What the public calls answer, by the main definition (Reading). Laws are in Calls/Laws.antt. Assumes nothing.
 pub mod Laws
 use mathlib.Core.Path.{_≡_}
-use mathlib.Core.List.{List, [], _++_}
+use mathlib.Core.List.{List, []}
 use Prim.Native.Nat.{ℕ, _<_}
-use lib.ListN.{length, getD, take, drop}
+use lib.ListN.{length, getD}
 use Rattle.training_file.specs.declared.item.Label.the-variants.{PassedOver}
 use Rattle.training_file.specs.declared.item.Item.{Item}
 use Rattle.training_file.specs.declared.refusal.Refusal.{Refusal}
 use Rattle.training_file.specs.Refusal.{noRefusal, refusal}
+use Rattle.chain.specs.Stages.{tableWith}
 use Rattle.reading.specs.declared.reader.FileAnswer.{FileAnswer}
 use Rattle.reading.specs.declared.reader.FileAnswer.the-variants.{Refused, Accepted}
 use Rattle.reading.specs.Reading.{Reading, accepted, reading, refused}
@@ -16,10 +17,6 @@ use Rattle.reading.specs.Reading.{Reading, accepted, reading, refused}
 abbrev pub fileAnswer : Reading → FileAnswer
 fileAnswer (refused number) = Refused (refusal number)
 fileAnswer (accepted parameters records items) = Accepted parameters (length records)
-
--- a table with the record numbers of a list in its first places, as many as it has places for; later places keep theirs
-abbrev pub tableWith : List ℕ → List ℕ → List ℕ
-tableWith records table = take (length table) records ++ drop (length records) table
 
 -- the refusal that an answer is
 abbrev pub fileRefusal : FileAnswer → Refusal

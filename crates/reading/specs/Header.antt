@@ -1,13 +1,18 @@
 -- The header judged: refusals 1 and 2 of document 01. Laws are in Header/Laws.antt. Assumes nothing.
 pub mod Laws
-use mathlib.Core.Bool.{Bool, _&&_}
+use mathlib.Core.Bool.{Bool, _&&_, cond}
 use mathlib.Core.List.{List}
 use Prim.Native.Nat.{ℕ, _+_, _*_}
 use lib.Dec.{leb, eqb}
 use lib.ListN.{length}
 use Rattle.training_file.specs.declared.parameters.Parameters.{Parameters}
+use Rattle.training_file.specs.declared.parameters.ParametersAnswer.{ParametersAnswer}
+use Rattle.training_file.specs.declared.parameters.ParametersAnswer.the-variants.{Refused, Allowed}
+use Rattle.training_file.specs.Refusal.{refusal}
 use Rattle.training_file.specs.Layout.{ceilingUnits, featuresInUse, firstRecord, gridUnits, kernelByte, recordsStored, spare, spareEnd, stepBudget, toleranceUnits}
 use Rattle.training_file.specs.Parameters.{kernelAllowed, kernelOfByte, parametersAllowed, recordsMost}
+use Rattle.chain.specs.declared.count.Count.{Count}
+use Rattle.chain.specs.Stages.{countIf}
 
 -- refusal 1: "under 32 bytes, m over 256, or a length other than 32 + 20 × m"
 unfoldable pub lengthAllowed : List ℕ → Bool
@@ -33,3 +38,11 @@ headerAllowed file =
     && eqb (spareEnd file) 0
     && kernelAllowed (kernelByte file)
     && parametersAllowed (parametersOf file)
+
+-- ---- what the code of both stages answers
+
+abbrev pub storedAnswer : List ℕ → Count
+storedAnswer file = countIf (lengthAllowed file) 1 (recordsStored file)
+
+abbrev pub headerAnswer : List ℕ → ParametersAnswer
+headerAnswer file = cond (headerAllowed file) (Allowed (parametersOf file)) (Refused (refusal 2))

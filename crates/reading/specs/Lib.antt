@@ -1,7 +1,5 @@
--- Reading a training file, to be read in this order: Header, Chain, Reading (the main definition), Calls (what the public calls
--- answer), Stages (the inner contracts of the code). Laws of X are in X/Laws.antt.
+-- Reading a training file, to be read in this order: Header, Chain of the crate `chain`, Reading (the main definition), Calls (what the
+-- public calls answer). Laws of X are in X/Laws.antt.
 pub mod Header
-pub mod Chain
 pub mod Reading
 pub mod Calls
-pub mod Stages

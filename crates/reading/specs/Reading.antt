@@ -3,18 +3,16 @@
 pub mod Laws
 pub mod Examples
 use mathlib.Core.Bool.{Bool, true, false, _&&_}
-use mathlib.Core.List.{List, [], _∷_, map}
-use Prim.Native.Nat.{ℕ, _+_}
+use mathlib.Core.List.{List, map}
+use Prim.Native.Nat.{ℕ}
 use lib.Dec.{leb}
 use Rattle.training_file.specs.declared.parameters.Parameters.{Parameters}
-use Rattle.training_file.specs.declared.item.Label.{Label}
 use Rattle.training_file.specs.declared.item.Label.the-variants.{LookedUp, PassedOver}
 use Rattle.training_file.specs.declared.item.Item.{Item}
-use Rattle.training_file.specs.Layout.{firstRecord, nextOf, recordsStored}
-use Rattle.training_file.specs.Item.{same}
 use Rattle.training_file.specs.Record.{itemAt, recordAllowed}
+use Rattle.chain.specs.Chain.{Walk, broken, chainOf, ends}
+use Rattle.chain.specs.Records.{every, labelled}
 use Rattle.reading.specs.Header.{headerAllowed, lengthAllowed, parametersOf}
-use Rattle.reading.specs.Chain.{Walk, broken, chain, ends}
 
 -- A refusal by its number, or the parameters, the record numbers in chain order, and the items in that order.
 pub data Reading : Type 0 where
@@ -26,23 +24,9 @@ abbrev pub unless : ℕ → Bool → Reading → Reading
 unless number true rest = rest
 unless number false rest = refused number
 
--- whether a test holds of each record of a list
-unfoldable pub every : (ℕ → Bool) → List ℕ → Bool
-every test [] = true
-every test (r ∷ rs) = test r && every test rs
-
--- how many items have a label
-unfoldable pub labelled : Label → List Item → ℕ
-labelled label [] = 0
-labelled label (item ∷ items) = same label (item .label) + labelled label items
-
 -- refusal 5: "one label, or both, has no item"
 abbrev pub bothLabels : List Item → Bool
 bothLabels items = leb 1 (labelled LookedUp items) && leb 1 (labelled PassedOver items)
-
--- the chain of the file, walked over the next numbers of its records
-abbrev pub chainOf : List ℕ → Walk
-chainOf file = chain (nextOf file) (recordsStored file) (firstRecord file)
 
 -- "4: on the chain, .. The whole chain is walked first." Then 5: an empty chain has neither label. A record off the chain is
 -- not judged.

@@ -3,8 +3,8 @@
 ghost use mathlib.Core.Path.{_≡_};
 ghost use Prim.Native.Nat.{_≤_};
 ghost use lib.ListN.{length};
-ghost use Rattle.reading.specs.Stages.{headerAnswer, storedAnswer};
-use super::count::Count;
+ghost use Rattle.reading.specs.Header.{headerAnswer, storedAnswer};
+use chain::count::Count;
 use training_file::bytes::u16_at;
 use training_file::bytes::u32_at;
 use training_file::bytes::u64_at;

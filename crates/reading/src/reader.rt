@@ -4,9 +4,9 @@
 ghost use mathlib.Core.Path.{_≡_};
 ghost use Rattle.reading.specs.Reading.{reading};
 ghost use Rattle.reading.specs.Calls.{fileRefusal, Tabled, itemIn, itemsIn, fileAnswer, tableAfter};
-use super::chain;
-use super::count::Count;
 use super::header;
+use chain::count::Count;
+use chain::walks;
 use training_file::item::Item;
 use training_file::item::Label;
 use training_file::parameters::Parameters;
@@ -44,11 +44,11 @@ pub fn read(file: &[u8]) -> FileAnswer
     let ParametersAnswer::Allowed(parameters) = answer else {
         return FileAnswer::Refused(answer.refusal());
     };
-    let walked = chain::walk(file);
+    let walked = walks::walk(file);
     let Count::Counted(items) = walked else {
         return FileAnswer::Refused(walked.refusal());
     };
-    let judged = chain::judge(file, items, parameters.used);
+    let judged = walks::judge(file, items, parameters.used);
     let Count::Counted(looked_up) = judged else {
         return FileAnswer::Refused(judged.refusal());
     };
@@ -71,7 +71,7 @@ pub fn order(file: &[u8], table: &mut [u16]) -> FileAnswer
     let FileAnswer::Accepted(_, items) = answer else {
         return answer;
     };
-    chain::fill(file, items, table);
+    walks::fill(file, items, table);
     answer
 }
 

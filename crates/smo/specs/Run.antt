@@ -11,7 +11,7 @@ use lib.ListN.{replicate}
 use lib.Signed.{leZ}
 use Rattle.dual_problem.specs.Problem.{Problem, bUp, bLow}
 use Rattle.dual_problem.specs.Items.{at}
-use Rattle.smo_step.specs.Step.{moved, amount, workingPair}
+use Rattle.working_pair.specs.Step.{moved, amount, workingPair}
 use Rattle.smo.specs.declared.ending.Ending.{Ending}
 use Rattle.smo.specs.declared.ending.Ending.the-variants.{Converged, Stuck, Spent}
 

@@ -1,6 +1,5 @@
-// Training by sequential minimal optimization (document 01, "The step"): the run, step after step, and the call. It may use `integers`,
-// `training_file`, `reading`, `dual_problem` and `smo_step`.
+// Sequential minimal optimization (document 01, "The step"): the run, step after step, and how it ends. It may use `integers`,
+// `training_file`, `dual_problem`, `thresholds`, `working_pair` and `smo_step`.
 
 pub mod ending;
 pub mod run;
-pub mod train;

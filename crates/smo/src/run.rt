@@ -5,16 +5,16 @@
 ghost use mathlib.Core.Path.{_≡_};
 ghost use Rattle.training_file.specs.Parameters.{Ranges};
 ghost use Rattle.dual_problem.specs.Items.{problemOf};
-ghost use Rattle.smo_step.specs.State.{State};
+ghost use Rattle.thresholds.specs.Extremes.{extremesIn};
+ghost use Rattle.working_pair.specs.State.{State};
 ghost use Rattle.smo.specs.Answer.{decision, decisionEnding, runFrom, trainedWith};
-ghost use Rattle.certifying.specs.Thresholds.{extremesIn};
 use super::ending::Ending;
-use certifying::thresholds::Extremes;
-use certifying::thresholds::find_extremes;
-use smo_step::pair::Pair;
-use smo_step::pair::working_pair;
 use smo_step::step::take_step;
+use thresholds::extremes::Extremes;
+use thresholds::extremes::find_extremes;
 use training_file::parameters::Parameters;
+use working_pair::pair::Pair;
+use working_pair::pair::working_pair;
 
 // What is done before a step: the run ends, or a pair moves.
 pub enum Decision {

@@ -1,9 +1,2 @@
--- Document 01, "The step": which pair moves, by how much, and the move. Read Step and Move first; State, Curvature, Pair, Division and
--- Update are what the code's contracts cite. Laws of X are in X/Laws.antt. Assumes nothing.
-pub mod Step
-pub mod Move
-pub mod State
-pub mod Curvature
-pub mod Pair
-pub mod Division
+-- Document 01, "The step": what a step writes. Laws of X are in X/Laws.antt. Assumes nothing.
 pub mod Update

@@ -1,7 +1,4 @@
-// The rule for one step of training (document 01, "The step"): which pair moves, by how much, and the move. It may use `integers`,
-// `training_file`, `reading` and `dual_problem`.
+// A step taken (document 01, "The step"): both multipliers moved, and G of each item brought up to them. It may use `integers`,
+// `training_file`, `reading`, `dual_problem` and `working_pair`.
 
-mod amount;
-mod curvature;
-pub mod pair;
 pub mod step;

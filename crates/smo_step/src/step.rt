@@ -10,15 +10,15 @@ ghost use Rattle.reading.specs.Reading.{reading};
 ghost use Rattle.reading.specs.Calls.{itemsIn};
 ghost use Rattle.dual_problem.specs.Size.{gradientMost, kernelMost, termMost};
 ghost use Rattle.dual_problem.specs.Items.{problemOf};
-ghost use Rattle.smo_step.specs.Step.{Candidate, movedPair, raised, rise};
-ghost use Rattle.smo_step.specs.State.{State};
+ghost use Rattle.working_pair.specs.Step.{Candidate, movedPair, raised, rise};
+ghost use Rattle.working_pair.specs.State.{State};
 ghost use Rattle.smo_step.specs.Update.{stepped, steppedGradient, shifted, updated, Movable, Updatable};
-use super::amount::pair_amount;
 use dual_problem::kernel::kernel_value;
 use reading::reader::fetch;
 use training_file::item::Item;
 use training_file::item::Label;
 use training_file::parameters::Parameters;
+use working_pair::amount::pair_amount;
 
 // What becomes of a multiplier where it times y rises by the amount. Where it falls, it rises under the opposite label.
 fn raise(label: Label, multiplier: u32, amount: u32) -> u32

@@ -6,9 +6,9 @@ use Rattle.training_file.specs.declared.item.Label.the-variants.{LookedUp, Pass
 use Rattle.training_file.specs.Refusal.{refusal}
 use Rattle.dual_problem.specs.Items.{at}
 use Rattle.smo.specs.declared.ending.Ending.the-variants.{Converged}
-use Rattle.smo.specs.declared.train.Training.the-variants.{Refused, Ended}
-use Rattle.listing.specs.Listing.{itemLine, joined, listing, resultLine}
+use Rattle.training.specs.declared.train.Training.the-variants.{Refused, Ended}
 use Rattle.text.specs.Decimal.{digits, decimal, signedDecimal}
+use Rattle.listing.specs.Listing.{itemLine, joined, listing, resultLine}
 
 -- `converged 1 0 0`, `3 + 5`, `1 - 5`
 three-records : listing (Ended (record { ending = Converged; steps = 1; lower = pos 0; upper = pos 0 })) (3 ∷ 1 ∷ [])

@@ -30,10 +30,10 @@ use Rattle.smo.specs.declared.run.Trained.{Trained}
 use Rattle.smo.specs.Run.{training}
 use Rattle.smo.specs.Run.Laws.{training-sound}
 use Rattle.smo.specs.Answer.{trainedOf}
-use Rattle.smo.specs.Train.{endedWith, unchanged, trainRead}
-use Rattle.listing.specs.Listing.{endingText, itemCount, itemLine, joined, labelSign, lineAt, listing, listingOf, resultLine}
+use Rattle.training.specs.Train.{endedWith, unchanged, trainRead}
 use Rattle.text.specs.Decimal.{decimal}
 use Rattle.text.specs.Decimal.Laws.{decimal-few, decimal-length, signed-length}
+use Rattle.listing.specs.Listing.{endingText, itemCount, itemLine, joined, labelSign, lineAt, listing, listingOf, resultLine}
 
 -- ---- texts one after the other
 pub joined-cong : (n : ℕ) (f g : ℕ → List ℕ) → ((i : ℕ) → i < n → f i ≡ g i) → joined n f ≡ joined n g

@@ -14,16 +14,16 @@ use Rattle.reading.specs.Calls.{fileAnswer}
 use Rattle.reading.specs.Reading.Laws.{refused-within}
 use Rattle.dual_problem.specs.Problem.{Problem, problem}
 use Rattle.dual_problem.specs.Items.{at}
-use Rattle.smo.specs.declared.train.Training.the-variants as training
-use Rattle.smo.specs.Train.{TrainingLeft, trainFile, trainRead}
-use Rattle.lookahead.specs.declared.classify.Classified.the-variants as classified
-use Rattle.lookahead.specs.Classify.{classifying, classifyItems, classifyJudged, classifyRead, wordAllowed}
-use Rattle.lookahead_c.specs.Refusals.{CertifyRefusals, ClassifyRefusals, ReadRefusals, TrainRefusals}
 use Rattle.certifying.specs.declared.certify.Certified.the-variants as certified
 use Rattle.certifying.specs.declared.multipliers.Judgement.{Judgement}
 use Rattle.certifying.specs.declared.multipliers.Judgement.the-variants as judged
 use Rattle.certifying.specs.Multipliers.{balance, isZero, judgement, withinCeilings}
 use Rattle.certifying.specs.Certify.{certifying, certifyJudged, certifyRead}
+use Rattle.training.specs.declared.train.Training.the-variants as training
+use Rattle.training.specs.Train.{TrainingLeft, trainFile, trainRead}
+use Rattle.classifying.specs.declared.classify.Classified.the-variants as classified
+use Rattle.classifying.specs.Classify.{classifying, classifyItems, classifyJudged, classifyRead, wordAllowed}
+use Rattle.lookahead_c.specs.Refusals.{CertifyRefusals, ClassifyRefusals, ReadRefusals, TrainRefusals}
 
 -- what holds of both values holds of the one that a test picks
 picked : {A : Type 0} (Q : A → Type 0) (test : Bool) {x y : A} → Q x → Q y → Q (cond test x y)

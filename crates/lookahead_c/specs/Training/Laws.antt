@@ -5,10 +5,10 @@ use Prim.Native.Nat.{ℕ, zero, suc, _≤_}
 use native.Mathlib.Omega.{arith}
 use lib.IntN.{ℤ}
 use Rattle.reading.specs.Reading.{Reading, refused, accepted, reading}
-use Rattle.smo.specs.declared.train.Training.{Training}
-use Rattle.smo.specs.declared.train.Training.the-variants.{Refused, Ended}
-use Rattle.smo.specs.Train.{TrainingQuality, trainFile}
-use Rattle.smo.specs.Train.Laws.{training-quality}
+use Rattle.training.specs.declared.train.Training.{Training}
+use Rattle.training.specs.declared.train.Training.the-variants.{Refused, Ended}
+use Rattle.training.specs.Train.{TrainingQuality, trainFile}
+use Rattle.training.specs.Train.Laws.{training-quality}
 use Rattle.lookahead_c.specs.Refusals.{TrainRefusals}
 use Rattle.lookahead_c.specs.Refusals.Laws.{train-refusals}
 use Rattle.lookahead_c.specs.Training.{AnsweredQuality, SeenQuality, TrainNumbers, trainFound, trainNumber, trainSeen}

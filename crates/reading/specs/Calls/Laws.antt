@@ -8,11 +8,11 @@ use lib.Seq.{take-all}
 use Rattle.training_file.specs.declared.refusal.Refusal.{Refusal}
 use Rattle.training_file.specs.declared.parameters.Parameters.{Parameters}
 use Rattle.training_file.specs.declared.item.Item.{Item}
+use Rattle.chain.specs.Chain.{ends}
+use Rattle.chain.specs.Stages.{Chained, orderOf, recordsOf, tableWith}
 use Rattle.reading.specs.declared.reader.FileAnswer.the-variants as outcome
-use Rattle.reading.specs.Chain.{ends}
 use Rattle.reading.specs.Reading.{Reading, accepted, reading, refused}
-use Rattle.reading.specs.Calls.{Tabled, itemsIn, orderIn, fileAnswer, tableAfter, tableWith}
-use Rattle.reading.specs.Stages.{Chained, orderOf, recordsOf}
+use Rattle.reading.specs.Calls.{Tabled, itemsIn, orderIn, fileAnswer, tableAfter}
 use Rattle.reading.specs.Header.Laws.{allowed-whole}
 use Rattle.reading.specs.Reading.Laws.{AcceptedFile, accepted-is}
 

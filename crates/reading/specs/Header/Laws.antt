@@ -7,11 +7,15 @@ use native.Mathlib.Omega.{arith}
 use lib.Dec.{leb, eqb}
 use lib.ListN.{length}
 use borrow.Author.Tests.{le-leb, lt-leb, eq-eqb, ne-eqb, leb-true, eqb-true}
-use Rattle.integers.specs.Test.{&&-both}
+use Rattle.integers.specs.Test.{&&-both, chose-first, chose-second}
+use Rattle.training_file.specs.declared.refusal.Refusal.{Refusal}
+use Rattle.training_file.specs.declared.parameters.Parameters.{Parameters}
+use Rattle.training_file.specs.declared.parameters.ParametersAnswer.the-variants.{Allowed}
+use Rattle.training_file.specs.declared.parameters.ParametersAnswer.the-variants as parameters-answer
 use Rattle.training_file.specs.Layout.{firstRecord, kernelByte, recordsStored, spare, spareEnd}
 use Rattle.training_file.specs.Parameters.{kernelAllowed, parametersAllowed, recordsMost}
-use Rattle.reading.specs.Header.{headerAllowed, lengthAllowed, parametersOf}
-use Rattle.reading.specs.Stages.{WholeFile}
+use Rattle.chain.specs.Stages.{WholeFile}
+use Rattle.reading.specs.Header.{headerAllowed, headerAnswer, lengthAllowed, parametersOf}
 
 module _ (file : List ℕ) where
   -- ---- refusal 1
@@ -70,3 +74,14 @@ module _ (file : List ℕ) where
   header-parameters h =
       &&-both (leb (firstRecord file) (recordsStored file) && eqb (spare file) 0 && eqb (spareEnd file) 0 && kernelAllowed (kernelByte file))
       (parametersAllowed (parametersOf file)) h .1
+
+-- ---- what an answer says
+
+module _ (file : List ℕ) where
+  pub header-allowed : (p : Parameters) → headerAnswer file ≡ Allowed p → (headerAllowed file ≡ true) × (parametersOf file ≡ p)
+  header-allowed p e =
+      let chose = chose-first (headerAllowed file) (λ q. let z : _≡_ {A = ℕ} 0 1 = cc in omega arith) e in
+      (chose .0, let same = chose .1 in cc)
+
+  pub header-refused : (why : Refusal) → headerAnswer file ≡ parameters-answer.Refused why → headerAllowed file ≡ false
+  header-refused why e = chose-second (headerAllowed file) (λ q. let z : _≡_ {A = ℕ} 0 1 = cc in omega arith) e .0

@@ -11,9 +11,10 @@ use Rattle.training_file.specs.declared.item.Label.the-variants.{LookedUp, Pass
 use Rattle.training_file.specs.Parameters.{parametersAllowed}
 use Rattle.training_file.specs.Item.{featuresAllowed}
 use Rattle.training_file.specs.Record.{recordAllowed}
+use Rattle.chain.specs.Chain.{walk}
+use Rattle.chain.specs.Records.{every, labelled}
 use Rattle.reading.specs.Header.{headerAllowed, lengthAllowed}
-use Rattle.reading.specs.Chain.{walk}
-use Rattle.reading.specs.Reading.{accepted, every, labelled, reading, refused}
+use Rattle.reading.specs.Reading.{accepted, reading, refused}
 
 -- "three records, first 3, record 3 (+, feature 1) with next 1, record 1 (−, feature −1) with next 0, record 2 spare, d 1,
 -- linear, S 10, c 100, t 0, budget 50"; the spare record holds bytes that a record on the chain may not

@@ -4,8 +4,7 @@ pub mod Spare
 use mathlib.Core.Path.{_≡_, refl, sym, ap, ap₂, _∙_, subst}
 use mathlib.Core.Bool.{Bool, true, false, and-false}
 use mathlib.Core.List.{List, [], _∷_, map}
-use mathlib.Core.Option.{some}
-use Prim.Native.Nat.{ℕ, suc, _+_, _≤_}
+use Prim.Native.Nat.{ℕ, _+_, _≤_}
 use native.Mathlib.Omega.{arith}
 use lib.Dec.{leb, lit≤}
 use lib.ListN.{length}
@@ -14,13 +13,12 @@ use Rattle.training_file.specs.declared.parameters.Parameters.{Parameters}
 use Rattle.training_file.specs.declared.item.Label.{Label}
 use Rattle.training_file.specs.declared.item.Label.the-variants.{LookedUp, PassedOver}
 use Rattle.training_file.specs.declared.item.Item.{Item}
-use Rattle.training_file.specs.Layout.{firstRecord, nextOf, recordsStored}
 use Rattle.training_file.specs.Item.{same}
 use Rattle.training_file.specs.Record.{itemAt, recordAllowed}
-use Rattle.reading.specs.Chain.Laws.{walkMet-chain}
+use Rattle.chain.specs.Chain.{Walk, broken, chainOf, ends}
+use Rattle.chain.specs.Records.{every, labelled}
 use Rattle.reading.specs.Header.{headerAllowed, lengthAllowed, parametersOf}
-use Rattle.reading.specs.Chain.{Walk, broken, ends, walkMet}
-use Rattle.reading.specs.Reading.{Reading, accepted, bothLabels, chainOf, every, labelled, readChain, reading, refused, unless}
+use Rattle.reading.specs.Reading.{Reading, accepted, bothLabels, readChain, reading, refused, unless}
 
 -- ---- the reading by stages
 
@@ -82,13 +80,6 @@ reading-numbered file =
 
 pub refused-within : (file : List ℕ) (number : ℕ) → reading file ≡ refused number → (1 ≤ number) × (number ≤ 5)
 refused-within file number e = subst Numbered e (reading-numbered file)
-
--- ---- refusal 3 to the letter
-
--- the walk that keeps the records met, and is broken by one that it has met, finds the chain of the definition
-pub chain-to-the-letter : (file : List ℕ)
-    → walkMet (nextOf file) (recordsStored file) (suc (recordsStored file)) [] (firstRecord file) ≡ some (chainOf file)
-chain-to-the-letter file = walkMet-chain (nextOf file) (recordsStored file) (suc (recordsStored file)) (firstRecord file) (omega arith)
 
 -- ---- refusal 5 by the number of items looked up
 

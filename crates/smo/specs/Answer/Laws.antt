@@ -11,9 +11,9 @@ use lib.IntN.{pos, _+ℤ_}
 use lib.Signed.{leZ}
 use Rattle.dual_problem.specs.Problem.{Problem, bUp, bLow}
 use Rattle.dual_problem.specs.Items.{at}
-use Rattle.smo_step.specs.Step.{Candidate, workingPair}
-use Rattle.smo_step.specs.Step.Laws.WorkingPair.{working-pair-sound}
-use Rattle.smo_step.specs.Pair.{pairOf}
+use Rattle.working_pair.specs.Step.{Candidate, workingPair}
+use Rattle.working_pair.specs.Step.Laws.WorkingPair.{working-pair-sound}
+use Rattle.working_pair.specs.Pair.{pairOf}
 use Rattle.smo_step.specs.Update.{stepped}
 use Rattle.smo.specs.declared.ending.Ending.{Ending}
 use Rattle.smo.specs.declared.ending.Ending.the-variants.{Converged, Stuck, Spent}

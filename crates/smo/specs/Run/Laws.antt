@@ -19,12 +19,12 @@ use Rattle.integers.specs.Gram.{Gram}
 use Rattle.dual_problem.specs.Problem.{BoundedDistance, LabelsPresent, Problem, Feasible, y, bUp, bLow, objective, gap, notBelowZero}
 use Rattle.dual_problem.specs.Problem.Laws.Distance.{bounded-distance}
 use Rattle.dual_problem.specs.Items.{at}
-use Rattle.smo_step.specs.Step.{Candidate, amount, moved, workingPair}
-use Rattle.smo_step.specs.Step.Laws.{moved-length, moved-feasible, moves-apart, candidate-moves}
-use Rattle.smo_step.specs.Move.{NoMoveLowers}
-use Rattle.smo_step.specs.Step.Laws.Amount.{amount-in-room, amount-lowers}
-use Rattle.smo_step.specs.Step.Laws.WorkingPair.{working-pair-sound}
-use Rattle.smo_step.specs.Move.Laws.Stuck.{candidate-lowers, stuck-exactly}
+use Rattle.working_pair.specs.Step.{Candidate, amount, moved, workingPair}
+use Rattle.working_pair.specs.Step.Laws.{moved-length, moved-feasible, moves-apart, candidate-moves}
+use Rattle.working_pair.specs.Move.{NoMoveLowers}
+use Rattle.working_pair.specs.Step.Laws.Amount.{amount-in-room, amount-lowers}
+use Rattle.working_pair.specs.Step.Laws.WorkingPair.{working-pair-sound}
+use Rattle.working_pair.specs.Move.Laws.Stuck.{candidate-lowers, stuck-exactly}
 use Rattle.smo.specs.declared.ending.Ending.{Ending}
 use Rattle.smo.specs.declared.ending.Ending.the-variants.{Converged, Stuck, Spent}
 use Rattle.smo.specs.Run.{Next, ends, goesOn, next, Outcome, oneStepMore, run, training}

@@ -7,8 +7,8 @@ use Prim.Native.Nat.{ℕ, suc, _+_, _*_, _≤_, _<_}
 use lib.IntN.{ℤ}
 use Rattle.dual_problem.specs.Problem.{BoundedDistance, Problem, bLow, bUp, gap}
 use Rattle.dual_problem.specs.Items.{at}
-use Rattle.smo_step.specs.Step.{Candidate}
-use Rattle.smo_step.specs.Move.{NoMoveLowers}
+use Rattle.working_pair.specs.Step.{Candidate}
+use Rattle.working_pair.specs.Move.{NoMoveLowers}
 use Rattle.smo.specs.declared.ending.Ending.{Ending}
 use Rattle.smo.specs.declared.ending.Ending.the-variants.{Converged, Stuck, Spent}
 use Rattle.smo.specs.Run.{goesOn, next, Outcome}

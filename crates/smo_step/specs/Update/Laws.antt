@@ -23,12 +23,12 @@ use Rattle.dual_problem.specs.Problem.{Problem, Feasible, gradient}
 use Rattle.dual_problem.specs.Problem.Laws.{problem-gram}
 use Rattle.dual_problem.specs.Items.{MultipliersListed, at, problemOf}
 use Rattle.dual_problem.specs.Items.Laws.{gradient-size}
-use Rattle.smo_step.specs.Step.{Candidate, amount, curvature, fall, rise, room, slope}
-use Rattle.smo_step.specs.Step.Laws.{room-bound, moved-length, moved-other, moved-feasible, moved-gradient, curvature-nonneg, moves-slope, moves-apart, candidate-moves}
-use Rattle.smo_step.specs.Step.Laws.Amount.{amount-in-room}
-use Rattle.smo_step.specs.State.{State}
-use Rattle.smo_step.specs.Division.{divided, PairGiven}
-use Rattle.smo_step.specs.Division.Laws.{amount-divided}
+use Rattle.working_pair.specs.Step.{Candidate, amount, curvature, fall, rise, room, slope}
+use Rattle.working_pair.specs.Step.Laws.{room-bound, moved-length, moved-other, moved-feasible, moved-gradient, curvature-nonneg, moves-slope, moves-apart, candidate-moves}
+use Rattle.working_pair.specs.Step.Laws.Amount.{amount-in-room}
+use Rattle.working_pair.specs.State.{State}
+use Rattle.working_pair.specs.Division.{divided, PairGiven}
+use Rattle.working_pair.specs.Division.Laws.{amount-divided}
 use Rattle.smo_step.specs.Update.{stepped, updated, Movable, Updatable}
 
 -- a higher ceiling gives no less room

@@ -10,8 +10,8 @@ use Rattle.integers.specs.Bounds.{reads-element}
 use Rattle.integers.specs.Written.Laws.{written-at}
 use Rattle.dual_problem.specs.Problem.{Problem, gradient}
 use Rattle.dual_problem.specs.Items.{at, problemOf}
-use Rattle.certifying.specs.Thresholds.{bestValue}
-use Rattle.certifying.specs.Thresholds.Laws.{low-value, up-value}
+use Rattle.thresholds.specs.Extremes.{bestValue}
+use Rattle.thresholds.specs.Extremes.Laws.{low-value, up-value}
 use Rattle.certifying.proofs.certify.find_thresholds.Statement.{statement}
 use Rattle.certifying.proofs.certify.find_thresholds.Tie as tie
 

@@ -1,8 +1,8 @@
 -- `listing::lines::put_ending` meets its contract. Assumes nothing.
 use mathlib.Core.Path.{sym, ap}
 use borrow.Author.Needs.{needs}
-use Rattle.listing.specs.Listing.{endingText}
 use Rattle.text.specs.Put.Laws.{put-as, room-as}
+use Rattle.listing.specs.Listing.{endingText}
 use Rattle.listing.proofs.lines.put_ending.Statement.{statement}
 use Rattle.listing.proofs.lines.put_ending.Tie as tie
 

@@ -1,7 +1,7 @@
 -- `listing::lines::put_item` meets its contract. Assumes nothing.
 use borrow.Author.Needs.{needs}
-use Rattle.listing.specs.Listing.{itemLine}
 use Rattle.text.specs.Put.Laws.{put-then, room-first, room-then}
+use Rattle.listing.specs.Listing.{itemLine}
 use Rattle.listing.proofs.lines.put_item.Statement.{statement}
 use Rattle.listing.proofs.lines.put_item.Tie as tie
 

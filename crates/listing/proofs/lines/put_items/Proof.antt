@@ -9,10 +9,10 @@ use Rattle.training_file.specs.declared.item.Label.{Label}
 use Rattle.reading.specs.Reading.{reading}
 use Rattle.reading.specs.Calls.{itemIn, itemsIn}
 use Rattle.dual_problem.specs.Items.{Listed, at as atPlace}
-use Rattle.listing.specs.Listing.{itemLine, joined, lineIn}
-use Rattle.listing.specs.Listing.Laws.{joined-rises}
 use Rattle.text.specs.Put.{Put, Room}
 use Rattle.text.specs.Put.Laws.{put-as, put-length, put-none, put-then, room-as, room-then}
+use Rattle.listing.specs.Listing.{itemLine, joined, lineIn}
+use Rattle.listing.specs.Listing.Laws.{joined-rises}
 use Rattle.listing.proofs.lines.put_items.Statement.{statement}
 use Rattle.listing.proofs.lines.put_items.Tie as tie
 

@@ -2,8 +2,8 @@
 use mathlib.Core.List.{[], _∷_}
 use mathlib.Core.Path.{sym, ap}
 use borrow.Author.Needs.{needs}
-use Rattle.listing.specs.Listing.{labelSign}
 use Rattle.text.specs.Put.Laws.{put-as, room-as}
+use Rattle.listing.specs.Listing.{labelSign}
 use Rattle.listing.proofs.lines.put_label.Statement.{statement}
 use Rattle.listing.proofs.lines.put_label.Tie as tie
 

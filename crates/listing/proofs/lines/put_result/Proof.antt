@@ -7,8 +7,8 @@ use mir.Facts.{toZ-pos}
 use mir.Syntax.{w64}
 use mir.Val.{toZ, ofZ}
 use Rattle.integers.specs.Bounds.{reads-element}
-use Rattle.listing.specs.Listing.{field, resultLine}
 use Rattle.text.specs.Put.Laws.{put-as, put-then, room-as, room-first, room-then}
+use Rattle.listing.specs.Listing.{field, resultLine}
 use Rattle.listing.proofs.lines.put_result.Statement.{statement}
 use Rattle.listing.proofs.lines.put_result.Tie as tie
 

@@ -7,8 +7,8 @@ use mir.Syntax.{w64}
 use mir.Val.{toZ, ofZ}
 use borrow.Author.Needs.{needs}
 use Rattle.reading.specs.Reading.{reading}
-use Rattle.smo.specs.declared.train.Training.{Training}
-use Rattle.smo.specs.Train.{trainFile}
+use Rattle.training.specs.declared.train.Training.{Training}
+use Rattle.training.specs.Train.{trainFile}
 use Rattle.lookahead_c.specs.Training.{SeenQuality, TrainNumbers, TrainSeen, trainSeen}
 use Rattle.lookahead_c.specs.Training.Laws.{seen-quality}
 use Rattle.lookahead_c.proofs.train.lookahead_train.Statement.{statement}

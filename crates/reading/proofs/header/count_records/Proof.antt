@@ -1,7 +1,7 @@
 -- `reading::header::count_records` meets its contract: each answer follows from the tests before it. Assumes nothing.
 use mathlib.Core.Path.{ap}
 use borrow.Author.Needs.{needs}
-use Rattle.reading.specs.declared.count.Count.the-variants.{Counted}
+use Rattle.chain.specs.declared.count.Count.the-variants.{Counted}
 use Rattle.reading.specs.Header.Laws.{length-allowed, length-refused, many-refused, short-refused}
 use Rattle.reading.proofs.header.count_records.Statement.{statement}
 use Rattle.reading.proofs.header.count_records.Tie as tie

@@ -13,15 +13,17 @@ use Rattle.training_file.specs.Layout.{recordsStored}
 use Rattle.training_file.specs.Refusal.{refusal}
 use Rattle.training_file.specs.Answers.{parametersRefusal}
 use Rattle.training_file.specs.Record.{itemAt, recordAllowed}
+use Rattle.chain.specs.Chain.{chainOf, ends}
+use Rattle.chain.specs.Records.{every, labelled}
+use Rattle.chain.specs.Stages.{Chained, WholeFile, countIf, countRefusal, judgeAnswer, orderOf, walkAnswer}
+use Rattle.chain.specs.Stages.Laws.{if-counted, if-refused, walk-counted, walk-refused}
 use Rattle.reading.specs.declared.reader.FileAnswer.the-variants.{Refused, Accepted}
 use Rattle.reading.specs.Header.{headerAllowed, lengthAllowed, parametersOf}
-use Rattle.reading.specs.Chain.{ends}
-use Rattle.reading.specs.Reading.{bothLabels, chainOf, every, labelled, reading}
+use Rattle.reading.specs.Reading.{bothLabels, reading}
 use Rattle.reading.specs.Calls.{fileAnswer}
-use Rattle.reading.specs.Stages.{Chained, WholeFile, countIf, countRefusal, judgeAnswer, orderOf, walkAnswer}
 use Rattle.reading.specs.Header.Laws.{allowed-whole}
 use Rattle.reading.specs.Reading.Laws.{labels-all, labels-both, labels-none, reads-1, reads-2, reads-3, reads-4, reads-5, reads-all}
-use Rattle.reading.specs.Stages.Laws.{header-allowed, header-refused, if-counted, if-refused, walk-counted, walk-refused}
+use Rattle.reading.specs.Header.Laws.{header-allowed, header-refused}
 use Rattle.reading.proofs.reader.read.Statement.{statement}
 use Rattle.reading.proofs.reader.read.Tie as tie
 

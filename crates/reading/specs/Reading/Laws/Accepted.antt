@@ -21,13 +21,14 @@ use Rattle.training_file.specs.Item.{featureMost, featuresAllowed, same}
 use Rattle.training_file.specs.Record.{Stored, itemAt, recordAllowed}
 use Rattle.training_file.specs.Item.Laws.{features-most, features-past}
 use Rattle.training_file.specs.Record.Laws.{features-sixteen, record-features}
+use Rattle.chain.specs.Records.{every, labelled}
+use Rattle.chain.specs.Chain.Laws.{ends-length}
+use Rattle.chain.specs.Stages.Laws.{order-stored}
 use Rattle.reading.specs.Header.{parametersOf}
-use Rattle.reading.specs.Reading.{every, labelled, reading}
+use Rattle.reading.specs.Reading.{reading}
 use Rattle.reading.specs.Calls.{Tabled, itemIn, itemsIn, orderIn, tableAfter}
 use Rattle.reading.specs.Header.Laws.{header-parameters}
-use Rattle.reading.specs.Chain.Laws.{ends-length}
 use Rattle.reading.specs.Reading.Laws.{AcceptedFile, labels-sum}
-use Rattle.reading.specs.Stages.Laws.{order-stored}
 use Rattle.reading.specs.Calls.Laws.{accepted-chained, accepted-order, counted-accepted, table-serves}
 
 -- ---- lists

@@ -12,10 +12,11 @@ use Rattle.training_file.specs.declared.item.Item.{Item}
 use Rattle.training_file.specs.Layout.{byteAt, featureBytes, featureCount, firstRecord, le2, le4, le8, nextOf, recordStart, recordsStored}
 use Rattle.training_file.specs.Item.{itemOf, labelOfByte}
 use Rattle.training_file.specs.Record.{itemAt, recordAllowed}
+use Rattle.chain.specs.Chain.{Passes, Walk, after, broken, chain, chainOf, ends}
+use Rattle.chain.specs.Records.{every}
+use Rattle.chain.specs.Chain.Laws.{ends-after, ends-within, walk-spare}
 use Rattle.reading.specs.Header.{headerAllowed, lengthAllowed, parametersOf}
-use Rattle.reading.specs.Chain.{Passes, Walk, after, broken, chain, ends}
-use Rattle.reading.specs.Reading.{Reading, accepted, bothLabels, chainOf, every, readChain, reading, unless}
-use Rattle.reading.specs.Chain.Laws.{ends-after, ends-within, walk-spare}
+use Rattle.reading.specs.Reading.{Reading, accepted, bothLabels, readChain, reading, unless}
 
 -- ---- what agrees
 

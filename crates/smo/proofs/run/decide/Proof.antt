@@ -15,12 +15,12 @@ use Rattle.dual_problem.specs.Size.{gradientMost}
 use Rattle.dual_problem.specs.Problem.{Problem, gradient, bUp, bLow}
 use Rattle.dual_problem.specs.Items.{at, problemOf}
 use Rattle.dual_problem.specs.Items.Laws.{b-low-size, b-up-size}
-use Rattle.smo_step.specs.declared.pair.Pair.{Pair}
-use Rattle.smo_step.specs.Step.{workingPair}
-use Rattle.smo_step.specs.Pair.{pairOf}
+use Rattle.thresholds.specs.Extremes.{bestValue}
+use Rattle.thresholds.specs.Extremes.Laws.{low-value, up-value}
+use Rattle.working_pair.specs.declared.pair.Pair.{Pair}
+use Rattle.working_pair.specs.Step.{workingPair}
+use Rattle.working_pair.specs.Pair.{pairOf}
 use Rattle.smo.specs.Answer.{decided}
-use Rattle.certifying.specs.Thresholds.{bestValue}
-use Rattle.certifying.specs.Thresholds.Laws.{low-value, up-value}
 use Rattle.smo.proofs.run.decide.Statement.{statement}
 use Rattle.smo.proofs.run.decide.Tie as tie
 

@@ -13,9 +13,11 @@ use Rattle.integers.specs.Written.Laws.{length-written, written-same, written-o
 use Rattle.training_file.specs.declared.parameters.Parameters.{Parameters}
 use Rattle.dual_problem.specs.Problem.{Problem, gradient as gradientOf}
 use Rattle.dual_problem.specs.Items.{at, problemOf}
-use Rattle.smo_step.specs.Step.{Candidate}
-use Rattle.smo_step.specs.State.{State}
-use Rattle.smo_step.specs.Step.Laws.{moved-length}
+use Rattle.thresholds.specs.Extremes.{bestValue}
+use Rattle.thresholds.specs.Extremes.Laws.{low-value, up-value}
+use Rattle.working_pair.specs.Step.{Candidate}
+use Rattle.working_pair.specs.State.{State}
+use Rattle.working_pair.specs.Step.Laws.{moved-length}
 use Rattle.smo_step.specs.Update.{stepped}
 use Rattle.smo_step.specs.Update.Laws.{step-state}
 use Rattle.smo.specs.declared.ending.Ending.{Ending}
@@ -24,8 +26,6 @@ use Rattle.smo.specs.Run.{Outcome, next, goesOn, run as runOf}
 use Rattle.smo.specs.Run.Meaning.{moreSteps}
 use Rattle.smo.specs.Answer.{decisionEnding, leftWhole, trainedOf, trainedWith}
 use Rattle.smo.specs.Answer.Laws.{decision-ends, decision-moves, loop-ends, loop-spent, loop-steps}
-use Rattle.certifying.specs.Thresholds.{bestValue}
-use Rattle.certifying.specs.Thresholds.Laws.{low-value, up-value}
 use Rattle.smo.proofs.run.run.Statement.{statement}
 use Rattle.smo.proofs.run.run.Tie as tie
 

@@ -15,9 +15,9 @@ use Rattle.integers.specs.Extremum.Laws.{ltZ-strict, gtZ-strict, extreme-cong}
 use Rattle.dual_problem.specs.Problem.{Problem, gradient, up, low, bUp, bLow, objective}
 use Rattle.dual_problem.specs.Problem.Laws.Same.{gradient-cong, objective-cong, up-cong, low-cong, b-up-cong, b-low-cong}
 use Rattle.dual_problem.specs.Items.{at}
-use Rattle.smo_step.specs.Step.{curvature, moves, lowered, raised, moved, fall, rise, room, amount, candidate, firstCandidate, workingPair}
-use Rattle.smo_step.specs.Step.Laws.{moved-length}
-use Rattle.smo_step.specs.Step.Laws.WorkingPair.{iLow, iUp, first-candidate-sound, first-candidate-none, first-candidate-complete, first-candidate-absent, working-pair-sound}
+use Rattle.working_pair.specs.Step.{curvature, moves, lowered, raised, moved, fall, rise, room, amount, candidate, firstCandidate, workingPair}
+use Rattle.working_pair.specs.Step.Laws.{moved-length}
+use Rattle.working_pair.specs.Step.Laws.WorkingPair.{iLow, iUp, first-candidate-sound, first-candidate-none, first-candidate-complete, first-candidate-absent, working-pair-sound}
 use Rattle.smo.specs.Run.{Next, ends, goesOn, next, Outcome, oneStepMore, run}
 use Rattle.smo.specs.Run.Laws.{next-converged, next-stuck, next-moves, run-ends, run-spent, run-goes-on, step-long}
 

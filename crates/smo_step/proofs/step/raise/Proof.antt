@@ -4,7 +4,7 @@ use Prim.Native.Nat.{_≤_}
 use native.Mathlib.Omega.{arith}
 use borrow.Author.Needs.{needs}
 use Rattle.training_file.specs.Parameters.{ceilingMost}
-use Rattle.smo_step.specs.Step.{raised, rise}
+use Rattle.working_pair.specs.Step.{raised, rise}
 use Rattle.smo_step.proofs.step.raise.Statement.{statement}
 use Rattle.smo_step.proofs.step.raise.Tie as tie
 

@@ -16,9 +16,9 @@ use Rattle.reading.specs.Reading.{reading}
 use Rattle.reading.specs.Calls.{itemIn, itemsIn}
 use Rattle.dual_problem.specs.Problem.{Problem, ceilingOf}
 use Rattle.dual_problem.specs.Items.{at, problemOf}
-use Rattle.smo_step.specs.Step.{slope, lowered, raised, fall, rise, amount}
-use Rattle.smo_step.specs.Curvature.{curvatureBetween}
-use Rattle.smo_step.specs.Division.{divided, PairGiven}
+use Rattle.working_pair.specs.Step.{slope, lowered, raised, fall, rise, amount}
+use Rattle.working_pair.specs.Curvature.{curvatureBetween}
+use Rattle.working_pair.specs.Division.{divided, PairGiven}
 use Rattle.smo_step.specs.Update.{updated, Movable, Updatable}
 use Rattle.smo_step.specs.Update.Laws.{i-listed, j-listed, kept-size, slope-size, step-slope, step-pair, step-movable, step-updatable, step-amount, step-gradient}
 use Rattle.smo_step.proofs.step.take_step.Statement.{statement}

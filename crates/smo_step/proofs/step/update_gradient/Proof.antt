@@ -17,7 +17,7 @@ use Rattle.reading.specs.Reading.{reading}
 use Rattle.reading.specs.Calls.{itemsIn, itemIn}
 use Rattle.dual_problem.specs.Size.{gradientMost, termMost}
 use Rattle.dual_problem.specs.Kernel.Laws.{kernel-reads, kernel-sized}
-use Rattle.smo_step.specs.Curvature.{kernelBetween}
+use Rattle.working_pair.specs.Curvature.{kernelBetween}
 use Rattle.smo_step.specs.Update.{shifted, updated}
 use Rattle.smo_step.proofs.step.update_gradient.Statement.{statement}
 use Rattle.smo_step.proofs.step.update_gradient.Tie as tie

@@ -1,0 +1,83 @@
+-- What the stages of reading answer that walk the chain, each by the definition that it works out, and what a later stage relies on.
+-- `countRefusal` takes the refusal out of a count. Laws are in Stages/Laws.antt. Assumes nothing.
+pub mod Laws
+use mathlib.Core.Path.{_≡_}
+use mathlib.Core.Bool.{Bool, _&&_, cond}
+use mathlib.Core.List.{List, [], _++_, map}
+use Prim.Native.Nat.{ℕ, _+_, _*_, _≤_}
+use lib.Dec.{leb, ltb, eqb}
+use lib.ListN.{length, take, drop}
+use Rattle.training_file.specs.declared.refusal.Refusal.{Refusal}
+use Rattle.training_file.specs.declared.item.Label.the-variants.{LookedUp}
+use Rattle.training_file.specs.Refusal.{noRefusal, refusal}
+use Rattle.training_file.specs.Layout.{nextOf, recordsStored}
+use Rattle.training_file.specs.Parameters.{recordsMost}
+use Rattle.training_file.specs.Record.{itemAt, recordAllowed}
+use Rattle.chain.specs.declared.count.Count.{Count}
+use Rattle.chain.specs.declared.count.Count.the-variants as count
+use Rattle.chain.specs.declared.step.Step.{Step}
+use Rattle.chain.specs.declared.step.Step.the-variants.{Ended, Broken, Next}
+use Rattle.chain.specs.Chain.{Walk, broken, chainOf, ends}
+use Rattle.chain.specs.Records.{every, labelled}
+
+-- ---- counts
+
+-- a count, or a refusal where the test fails
+abbrev pub countIf : Bool → ℕ → ℕ → Count
+countIf test number n = cond test (count.Counted n) (count.Refused (refusal number))
+
+abbrev pub countRefusal : Count → Refusal
+countRefusal (count.Refused why) = why
+countRefusal (count.Counted n) = noRefusal
+
+-- ---- what stage 1 tells: the file's length
+
+-- the file has the length of its header and the records stored
+pub record WholeFile (file : List ℕ) : Type 0 where
+  pub most : recordsStored file ≤ recordsMost
+  pub whole : length file ≡ 32 + 20 * recordsStored file
+
+-- ---- stage 3: the number of items
+
+-- What the walk finds at a number, with so many records met before: "0 ends the chain"; the next number of a record of 1 to m
+-- that the budget allows; otherwise a break.
+abbrev pub stepAt : List ℕ → ℕ → ℕ → Step
+stepAt file number met =
+    cond (eqb number 0) Ended
+    (cond (leb number (recordsStored file) && ltb met (recordsStored file)) (Next (nextOf file number)) Broken)
+
+-- the number that a step leads to; 0 where it leads to none
+abbrev pub stepNext : Step → ℕ
+stepNext Ended = 0
+stepNext Broken = 0
+stepNext (Next number) = number
+
+abbrev pub walkAnswer : Walk → Count
+walkAnswer broken = count.Refused (refusal 3)
+walkAnswer (ends records) = count.Counted (length records)
+
+abbrev pub recordsOf : Walk → List ℕ
+recordsOf broken = []
+recordsOf (ends records) = records
+
+-- the record numbers in chain order, where the chain ends
+abbrev pub orderOf : List ℕ → List ℕ
+orderOf file = recordsOf (chainOf file)
+
+-- the chain of the file ends, with n records
+pub record Chained (file : List ℕ) (n : ℕ) : Type 0 where
+  pub file-whole : WholeFile file
+  pub ended : chainOf file ≡ ends (orderOf file)
+  pub counted : n ≡ length (orderOf file)
+
+-- ---- stage 4: how many items are looked up
+
+-- of these records, with k looked up before them
+abbrev pub judgeAnswer : ℕ → List ℕ → ℕ → List ℕ → Count
+judgeAnswer d file k records = countIf (every (recordAllowed d file) records) 4 (k + labelled LookedUp (map (itemAt file) records))
+
+-- ---- the order written down
+
+-- a table with the record numbers of a list in its first places, as many as it has places for; later places keep theirs
+abbrev pub tableWith : List ℕ → List ℕ → List ℕ
+tableWith records table = take (length table) records ++ drop (length records) table

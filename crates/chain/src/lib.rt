@@ -1,0 +1,7 @@
+// The chain of a training file (document 01, "The training file", refusals 3 and 4): walked to its end, its records judged, its order
+// written down. It may use `integers` and `training_file`.
+
+pub mod count;
+mod step;
+mod walker;
+pub mod walks;

@@ -1,0 +1,66 @@
+// One step of the walk along the chain, on slice and numbers. Reading takes it through `walker`.
+
+ghost use mathlib.Core.Path.{_≡_};
+ghost use Rattle.training_file.specs.Layout.{firstRecord};
+ghost use Rattle.chain.specs.Stages.{WholeFile, stepAt, stepNext};
+use training_file::bytes::u16_at;
+use training_file::layout;
+use training_file::record;
+
+// What the walk finds at a number.
+pub enum Step {
+    // The number is 0, which ends the chain.
+    Ended,
+    // The number is over those stored; or as many records were met as are stored, and this one was among them.
+    Broken,
+    // The number is a record's, and this is the record's next number.
+    Next(usize),
+}
+
+impl Step {
+    // The number that the step leads to. A step that leads to none gives 0.
+    pub fn next(self) -> usize
+        ensures { λ n. ⌜ n ≡ stepNext self ⌝ }
+    {
+        match self {
+            Step::Ended => 0,
+            Step::Broken => 0,
+            Step::Next(next) => next,
+        }
+    }
+}
+
+// The number at which the chain starts.
+pub fn first(file: &[u8]) -> usize
+    requires { ⌜ WholeFile (now file) ⌝ }
+    ensures { λ r. ⌜ r ≡ firstRecord (now (file .entry)) ⌝ }
+{
+    u16_at(file, layout::FIRST_RECORD) as usize
+}
+
+// One step of the walk, at a number, with so many records met before it.
+pub fn step_at(file: &[u8], number: usize, met: usize) -> Step
+    requires { ⌜ WholeFile (now file) ⌝ }
+    ensures { λ r. ⌜ r ≡ stepAt (now (file .entry)) number met ⌝ }
+{
+    if number == 0 {
+        return Step::Ended;
+    }
+    let stored = u16_at(file, layout::RECORDS_STORED) as usize;
+    if stored < number {
+        return Step::Broken;
+    }
+    if stored <= met {
+        return Step::Broken;
+    }
+    Step::Next(record::next(file, number))
+}
+
+// The number that one step leads to.
+pub fn next_at(file: &[u8], number: usize, met: usize) -> usize
+    requires { ⌜ WholeFile (now file) ⌝ }
+    ensures { λ n. ⌜ n ≡ stepNext (stepAt (now (file .entry)) number met) ⌝ }
+{
+    let step = step_at(file, number, met);
+    step.next()
+}

@@ -1,0 +1,83 @@
+-- Classifying a word by a training file and multipliers (document 01, "The step", its last paragraph, and refusals 6 to 9). Laws are in
+-- Classify/Laws.antt. Assumes nothing.
+pub mod Laws
+use mathlib.Core.Path.{_≡_}
+use mathlib.Core.Bool.{Bool, cond}
+use mathlib.Core.List.{List}
+use Prim.Native.Nat.{ℕ, _≤_}
+use lib.Dec.{eqb}
+use lib.IntN.{ℤ, pos, natAbs, _+ℤ_, _-ℤ_, _*ℤ_}
+use lib.ListN.{length, getD}
+use lib.Signed.{ltZ}
+use Rattle.integers.specs.Places.{all}
+use Rattle.training_file.specs.declared.parameters.Parameters.{Parameters}
+use Rattle.training_file.specs.declared.item.Item.{Item}
+use Rattle.training_file.specs.Refusal.{refusal}
+use Rattle.training_file.specs.Layout.{featureCount}
+use Rattle.training_file.specs.Item.{featureAllowed}
+use Rattle.reading.specs.Calls.{itemIn}
+use Rattle.reading.specs.Reading.{Reading, refused, accepted, reading}
+use Rattle.dual_problem.specs.Size.{gradientMost}
+use Rattle.dual_problem.specs.Kernel.{kernelValue}
+use Rattle.dual_problem.specs.Problem.{problem}
+use Rattle.dual_problem.specs.Items.{MultipliersListed, at, weighedSum}
+use Rattle.certifying.specs.declared.multipliers.Judgement.{Judgement}
+use Rattle.certifying.specs.declared.multipliers.Judgement.the-variants as judged
+use Rattle.certifying.specs.declared.certify.Thresholds.{Thresholds}
+use Rattle.certifying.specs.Multipliers.{judgement}
+use Rattle.certifying.specs.Certify.{thresholdsOf}
+use Rattle.classifying.specs.declared.classify.Class.{Class}
+use Rattle.classifying.specs.declared.classify.Class.the-variants.{LookedUp, PassedOver}
+use Rattle.classifying.specs.declared.classify.Classified.{Classified}
+use Rattle.classifying.specs.declared.classify.Classified.the-variants.{Refused, Is}
+
+-- "K of item i and the word"
+abbrev pub wordKernel : Parameters → List Item → List ℤ → ℕ → ℤ
+wordKernel p items word i = kernelValue (p .kernel) (p .used) (itemIn items i .features) word
+
+-- "Classifying works out 2 × (sum of a_i × y_i × K of item i and the word) − (b_low + b_up).": doubled, so that halfway between the
+-- thresholds needs no fraction
+unfoldable pub scoreWith : Parameters → List Item → (ℕ → ℕ) → Thresholds → List ℤ → ℤ
+scoreWith p items a thresholds word = pos 2 *ℤ weighedSum (problem p items) a (wordKernel p items word) -ℤ (thresholds .lower +ℤ thresholds .upper)
+
+-- "Both thresholds are those of the multipliers given, worked out in the call."
+abbrev pub score : Parameters → List Item → (ℕ → ℕ) → List ℤ → ℤ
+score p items a word = scoreWith p items a (thresholdsOf (problem p items) a) word
+
+-- "Above 0 the answer is looked up; otherwise passed over."
+abbrev pub classOf : ℤ → Class
+classOf value = cond (ltZ (pos 0) value) LookedUp PassedOver
+
+-- whether each feature of a word is in the range that an item's are
+abbrev pub wordAllowed : List ℤ → Bool
+wordAllowed word = all (length word) (λ i. featureAllowed (getD word i (pos 0)))
+
+-- judged multipliers: their refusal, or "9: a word's feature outside −100 to 100", or the class
+abbrev pub classifyJudged : Parameters → List Item → List ℕ → List ℤ → Judgement → Classified
+classifyJudged p items a word (judged.Refused why) = Refused why
+classifyJudged p items a word judged.Feasible = cond (wordAllowed word) (Is (classOf (score p items (at a) word))) (Refused (refusal 9))
+
+-- "6: .. a word without exactly d features". Multipliers not n in number draw the same 6 from the judging, whose first test it is, so
+-- the numbers are met in order
+abbrev pub classifyItems : Parameters → List Item → List ℕ → List ℤ → Classified
+classifyItems p items a word =
+    cond (eqb (length word) (p .used)) (classifyJudged p items a word (judgement (problem p items) a)) (Refused (refusal 6))
+
+-- "The first refusal met ends the call, in the order 1 to 9": those of the file come before those of the caller
+abbrev pub classifyRead : Reading → List ℕ → List ℤ → Classified
+classifyRead (refused number) a word = Refused (refusal number)
+classifyRead (accepted p order items) a word = classifyItems p items a word
+
+abbrev pub classifying : List ℕ → List ℕ → List ℤ → Classified
+classifying file a word = classifyRead (reading file) a word
+
+-- two lists with the same feature at each place, past their ends 0
+abbrev pub SameFeatures : List ℤ → List ℤ → Type 0
+SameFeatures xs zs = (q : ℕ) → getD xs q (pos 0) ≡ getD zs q (pos 0)
+
+-- what a word's score asks: multipliers that were judged, thresholds no larger than a G can be, and a word that an item has room for
+pub record Scorable (file order : List ℕ) (n : ℕ) (p : Parameters) (a : List ℕ) (thresholds : Thresholds) (word : List ℤ) : Type 0 where
+  pub listed : MultipliersListed file order n p a
+  pub lower-size : natAbs (thresholds .lower) ≤ gradientMost
+  pub upper-size : natAbs (thresholds .upper) ≤ gradientMost
+  pub short : length word ≤ featureCount

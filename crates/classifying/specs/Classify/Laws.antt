@@ -1,0 +1,79 @@
+-- Laws of classifying: K of an item and the word either way round, and the answer by the stage that gives it. Assumes nothing.
+use mathlib.Core.Path.{_≡_, refl, sym, _∙_, ap}
+use mathlib.Core.Bool.{Bool, true, false, cond, _&&_}
+use mathlib.Core.List.{List}
+use Prim.Native.Nat.{ℕ}
+use native.Mathlib.Omega.{arith}
+use lib.Dec.{eqb}
+use lib.IntN.{ℤ}
+use lib.ListN.{length}
+use Rattle.training_file.specs.declared.parameters.Parameters.{Parameters}
+use Rattle.training_file.specs.declared.item.Item.{Item}
+use Rattle.training_file.specs.declared.refusal.Refusal.{Refusal}
+use Rattle.training_file.specs.Refusal.{refusal}
+use Rattle.reading.specs.declared.reader.FileAnswer.the-variants as file-answer
+use Rattle.reading.specs.Reading.{Reading, refused, accepted, reading}
+use Rattle.reading.specs.Calls.{itemIn, itemsIn, fileAnswer}
+use Rattle.dual_problem.specs.Kernel.{kernelValue}
+use Rattle.dual_problem.specs.Kernel.Laws.{kernelValue-comm, kernelValue-cong}
+use Rattle.dual_problem.specs.Problem.{problem}
+use Rattle.dual_problem.specs.Items.{at}
+use Rattle.dual_problem.specs.Items.Laws.Read.{Read}
+use Rattle.certifying.specs.declared.multipliers.Judgement.{Judgement}
+use Rattle.certifying.specs.declared.multipliers.Judgement.the-variants as judged
+use Rattle.certifying.specs.Multipliers.{balance, isZero, judgement, withinCeilings}
+use Rattle.certifying.specs.Multipliers.Laws.{verdict}
+use Rattle.classifying.specs.declared.classify.Classified.{Classified}
+use Rattle.classifying.specs.declared.classify.Classified.the-variants.{Refused, Is}
+use Rattle.classifying.specs.Classify.{SameFeatures, classOf, classifyItems, classifyJudged, classifyRead, classifying, score, wordAllowed, wordKernel}
+
+-- ---- the kernel
+-- a list with the word's features, compared with an item, gives K of the item and the word
+pub wordKernel-is : (p : Parameters) (items : List Item) (xs word : List ℤ) → SameFeatures xs word → (i : ℕ) → kernelValue (p .kernel) (p .used) xs (itemIn items i .features) ≡ wordKernel p items word i
+wordKernel-is p items xs word e i =
+    kernelValue-cong (p .kernel) (p .used) xs word (itemIn items i .features) e ∙ kernelValue-comm (p .kernel) (p .used) word (itemIn items i .features)
+
+-- ---- the answer, by the stage that gives it
+-- a refusal of the file is the answer
+pub classify-refused : (r : Reading) (a : List ℕ) (word : List ℤ) (why : Refusal) → fileAnswer r ≡ file-answer.Refused why → classifyRead r a word ≡ Refused why
+classify-refused (refused number) a word why e = let q : refusal number ≡ why = cc in ap Refused q
+classify-refused (accepted p order items) a word why e = let z : _≡_ {A = ℕ} 0 1 = cc in absurd (omega arith)
+
+-- a file that was read is classified by its items
+pub classify-read : (file a : List ℕ) (word : List ℤ) {p : Parameters} {n : ℕ} → Read file p n → classifyItems p (itemsIn (reading file)) a word ≡ classifying file a word
+classify-read file a word {p} r = ap (λ x. classifyItems p (itemsIn x) a word) (r .is) ∙ sym (ap (λ x. classifyRead x a word) (r .is))
+
+module _ (p : Parameters) (items : List Item) (a : List ℕ) (word : List ℤ) where
+  abbrev pub class : Classified
+  class = Is (classOf (score p items (at a) word))
+
+  -- the numbers 6 to 9 are met in this order
+  pub refusals-in-order : classifyItems p items a word
+      ≡ cond (eqb (length a) (length items) && eqb (length word) (p .used))
+      (cond (withinCeilings (length items) (problem p items) (at a))
+      (cond (isZero (balance (problem p items) (at a)))
+      (cond (wordAllowed word) class (Refused (refusal 9)))
+      (Refused (refusal 8)))
+      (Refused (refusal 7)))
+      (Refused (refusal 6))
+  refusals-in-order =
+      by (eqb (length a) (length items)) (eqb (length word) (p .used)) (withinCeilings (length items) (problem p items) (at a)) (isZero (balance (problem p items) (at a)))
+    where
+      by : (s d t u : Bool) → cond d (classifyJudged p items a word (verdict s t u)) (Refused (refusal 6))
+          ≡ cond (s && d) (cond t (cond u (cond (wordAllowed word) class (Refused (refusal 9))) (Refused (refusal 8))) (Refused (refusal 7))) (Refused (refusal 6))
+      by true true true true = refl
+      by true true true false = refl
+      by true true false u = refl
+      by true false t u = refl
+      by false true t u = refl
+      by false false t u = refl
+
+  -- what the word's length and the judging answer decides
+  pub items-are : {d : Bool} {j : Judgement} → eqb (length word) (p .used) ≡ d → judgement (problem p items) a ≡ j
+      → classifyItems p items a word ≡ cond d (classifyJudged p items a word j) (Refused (refusal 6))
+  items-are e f = λ i. cond (e i) (classifyJudged p items a word (f i)) (Refused (refusal 6))
+
+  -- feasible multipliers and d features: the range of the features decides
+  pub feasible-are : {t : Bool} → eqb (length word) (p .used) ≡ true → judgement (problem p items) a ≡ judged.Feasible → wordAllowed word ≡ t
+      → classifyItems p items a word ≡ cond t class (Refused (refusal 9))
+  feasible-are e f g = items-are e f ∙ (λ i. cond (g i) class (Refused (refusal 9)))

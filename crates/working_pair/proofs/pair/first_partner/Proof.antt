@@ -1,0 +1,112 @@
+-- `working_pair::pair::first_partner` meets its contract. The loop's invariant: none of the first j places is a partner of i. Assumes nothing.
+use mathlib.Core.Path.{_≡_, refl, sym, _∙_, ap}
+use mathlib.Core.Logic.{⊎-elim}
+use mathlib.Core.Bool.{Bool, false, _&&_}
+use mathlib.Core.List.{List}
+use mathlib.Core.Option.{none}
+use Prim.Native.Nat.{ℕ, _-_, _≤_}
+use native.Mathlib.Numerals.{add-one}
+use native.Mathlib.Omega.{arith}
+use Rattle.integers.specs.Test.{&&-true}
+use Rattle.integers.specs.Extremum.{first, orPlace}
+use Rattle.integers.specs.Extremum.Laws.First.{first-none, first-complete}
+use Rattle.dual_problem.specs.Problem.{Problem, up}
+use Rattle.dual_problem.specs.Items.{at, problemOf}
+use Rattle.working_pair.specs.Step.{moves}
+use Rattle.working_pair.specs.Pair.{TellsMoves, partnerOf}
+use Rattle.working_pair.proofs.pair.first_partner.Statement.{statement}
+use Rattle.working_pair.proofs.pair.first_partner.Tie as tie
+
+-- whether j is in the up set and i moves with it
+abbrev partners : Problem → List ℕ → ℕ → ℕ → Bool
+partners P a i j = up P (at a) j && moves P a i j
+
+abbrev Inv-loop : tie.InvT-loop
+Inv-loop file order count parameters multipliers gradient i j₀ j = (j ≤ count) × (first j (partners (problemOf file parameters) multipliers i) ≡ none)
+
+abbrev μ-loop : tie.MeasureT-loop
+μ-loop file order count parameters multipliers gradient i j₀ j = count - j
+
+loop-holds : tie.Need-loop-holds Inv-loop μ-loop
+unfolding first
+loop-holds c = (omega arith, refl)
+
+sets-at-requires : tie.Need-sets-at-requires Inv-loop μ-loop
+sets-at-requires c κs =
+    let p = c .before .before .before .before .before .pre .0 .listed in
+    (p .table .tabled _ (c .loop-test .taken), omega (arith, p .long))
+
+pair-moves-requires : tie.Need-pair-moves-requires Inv-loop μ-loop
+pair-moves-requires c κs =
+    let s = c .before .before .before .before .before .before .before in
+    (s .args .count, s .args .multipliers .now, record { state = s .pre .0; i-within = s .pre .1; j-within = c .before .before .loop-test .taken })
+
+-- what was asked of the place j
+module _ (c : tie.After-sets-at Inv-loop μ-loop) where
+  s : tie.Start Inv-loop μ-loop
+  s = c .before .before .before .before .before .before
+
+  j : ℕ
+  j = c .before .before .loop .j
+
+  abbrev P : Problem
+  P = problemOf (s .args .file .now) (s .args .parameters)
+
+  abbrev a : List ℕ
+  a = s .args .multipliers .now
+
+  up-is : {t : Bool} → c .sets-at .result .up ≡ t → up P (at a) j ≡ t
+  unfolding s j
+  up-is e = sym (λ k. c .sets-at .ensures k .up) ∙ e
+
+  moves-is : {r t : Bool} → TellsMoves (s .args .file .now) (s .args .order .now) (s .args .parameters) (s .args .gradient .now) (s .args .i) j r → r ≡ t → moves P a (s .args .i) j ≡ t
+  unfolding s j
+  moves-is h e = sym (h (s .args .count) a (record { state = s .pre .0; i-within = s .pre .1; j-within = c .before .loop-test .taken })) ∙ e
+
+returns : tie.Need-returns Inv-loop μ-loop
+unfolding s j
+returns c =
+    let d = c .before .before .before in
+    sym
+    (ap partnerOf
+    (first-complete (partners (P d) (a d) (s d .args .i))
+    (record {
+      within = omega (arith, d .before .loop-test .taken, s d .pre .0 .listed .table .counted);
+      passes = &&-true (up-is d (c .before .before .if1 .taken)) (moves-is d (c .before .pair-moves .ensures) (c .if2 .taken));
+      before = first-none (partners (P d) (a d) (s d .args .i)) (d .before .before .loop .inv .1);
+    })))
+
+add-j : tie.Need-add-j Inv-loop μ-loop
+add-j c = omega arith
+
+loop-less : tie.Need-loop-less Inv-loop μ-loop
+loop-less c = omega arith
+
+loop-again : tie.Need-loop-again Inv-loop μ-loop
+unfolding s j first
+loop-again c =
+    let d = c .before in
+    let fails : partners (P d) (a d) (s d .args .i) (j d) ≡ false = ⊎-elim (λ w. λ k. up-is d (w .0 .taken) k && moves-is d (w .1 .ensures) (w .2 .left) k) (λ w. λ k. up-is d (w .left) k && moves (P d) (a d) (s d .args .i) (j d)) (c .if1 .came) in
+    (omega arith, rw add-one (λ k. orPlace (d .before .before .loop .inv .1 k) (j d) (fails k)))
+
+returns-2 : tie.Need-returns-2 Inv-loop μ-loop
+returns-2 c =
+    let s = c .before .before .before .before .before in
+    let e : c .before .loop .j ≡ s .args .count = omega arith in
+    let n = e ∙ s .pre .0 .listed .table .counted in
+    sym (ap partnerOf (ap (λ k. first k (partners (problemOf (s .args .file .now) (s .args .parameters)) (s .args .multipliers .now) (s .args .i))) (sym n) ∙ c .before .loop .inv .1))
+
+pub first-partner-spec : {M : Type 1} → statement M
+first-partner-spec =
+    tie.close
+    (tie.spec
+    Inv-loop
+    μ-loop
+    loop-holds
+    sets-at-requires
+    pair-moves-requires
+    returns
+    add-j
+    loop-less
+    loop-again
+    returns-2)

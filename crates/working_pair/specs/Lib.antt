@@ -1,0 +1,8 @@
+-- Document 01, "The step": which pair moves, by how much, and the move. Read Step and Move first; State, Curvature, Pair and Division
+-- are what the code's contracts cite. Laws of X are in X/Laws.antt. Assumes nothing.
+pub mod Step
+pub mod Move
+pub mod State
+pub mod Curvature
+pub mod Pair
+pub mod Division
