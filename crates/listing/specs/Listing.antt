@@ -1,74 +1,28 @@
--- The listing that the training program prints (document 01, last part of "Settled examples"), as a list of bytes: 32 is the space and 10
--- ends a line. Laws are in Listing/Laws.antt, and the document's own example is in Listing/Examples.antt. Assumes nothing.
+-- The listing that the training program prints (document 01, last part of "Settled examples"), as a list of bytes, of the lines that the
+-- crate `lines` defines. Laws are in Listing/Laws.antt, and the document's own example is in Listing/Examples.antt. Assumes nothing.
 pub mod Laws
 pub mod Examples
-use mathlib.Core.List.{List, [], _∷_, _++_}
-use Prim.Native.Nat.{ℕ, zero, suc}
-use lib.IntN.{ℤ, pos}
-use lib.ListN.{length, getD}
+use mathlib.Core.List.{List, [], _++_}
+use Prim.Native.Nat.{ℕ}
+use lib.ListN.{length}
 use Rattle.training_file.specs.declared.item.Item.{Item}
-use Rattle.training_file.specs.declared.item.Label.{Label}
-use Rattle.training_file.specs.declared.item.Label.the-variants.{LookedUp, PassedOver}
 use Rattle.training_file.specs.Refusal.{refusal}
 use Rattle.reading.specs.declared.reader.FileAnswer.{FileAnswer}
 use Rattle.reading.specs.declared.reader.FileAnswer.the-variants as reader
 use Rattle.reading.specs.Reading.{Reading, refused, accepted, reading}
-use Rattle.reading.specs.Calls.{itemIn, itemsIn, orderIn}
+use Rattle.reading.specs.Calls.{itemsIn, orderIn}
 use Rattle.dual_problem.specs.Problem.{problem}
 use Rattle.dual_problem.specs.Items.{at}
-use Rattle.smo.specs.declared.ending.Ending.{Ending}
-use Rattle.smo.specs.declared.ending.Ending.the-variants.{Converged, Stuck, Spent}
-use Rattle.smo.specs.declared.run.Trained.{Trained}
 use Rattle.smo.specs.Run.{training}
 use Rattle.smo.specs.Answer.{trainedOf}
 use Rattle.training.specs.declared.train.Training.{Training}
 use Rattle.training.specs.declared.train.Training.the-variants.{Refused, Ended}
-use Rattle.text.specs.Decimal.{decimal, signedDecimal}
-
--- `converged`, `stuck`, `spent`
-abbrev pub endingText : Ending → List ℕ
-endingText Converged = 99 ∷ 111 ∷ 110 ∷ 118 ∷ 101 ∷ 114 ∷ 103 ∷ 101 ∷ 100 ∷ []
-endingText Stuck = 115 ∷ 116 ∷ 117 ∷ 99 ∷ 107 ∷ []
-endingText Spent = 115 ∷ 112 ∷ 101 ∷ 110 ∷ 116 ∷ []
-
--- `+` for an item looked up, `-` for one passed over
-abbrev pub labelSign : Label → ℕ
-labelSign LookedUp = 43
-labelSign PassedOver = 45
-
--- "`refused`, a space and the number"
-abbrev pub refusalLine : ℕ → List ℕ
-refusalLine number = (114 ∷ 101 ∷ 102 ∷ 117 ∷ 115 ∷ 101 ∷ 100 ∷ 32 ∷ []) ++ (decimal number ++ (10 ∷ []))
-
--- a space and a number
-abbrev pub field : ℤ → List ℕ
-field number = (32 ∷ []) ++ signedDecimal number
-
--- "Line one: ending, steps, b_low, b_up."
-unfoldable pub resultLine : Trained → List ℕ
-resultLine trained = endingText (trained .ending) ++ (field (pos (trained .steps)) ++ (field (trained .lower) ++ (field (trained .upper) ++ (10 ∷ []))))
-
--- "Each further line: record number, label, multiplier"
-unfoldable pub itemLine : ℕ → Label → ℕ → List ℕ
-itemLine number label multiplier = decimal number ++ ((32 ∷ labelSign label ∷ 32 ∷ []) ++ (decimal multiplier ++ (10 ∷ [])))
+use Rattle.lines.specs.Lines.{joined, lineAt, refusalLine, resultLine}
 
 -- how many items what a file is read as has
 abbrev pub itemCount : FileAnswer → ℕ
 itemCount (reader.Refused why) = 0
 itemCount (reader.Accepted parameters count) = count
-
--- the texts of the places below n, one after the other
-unfoldable pub joined : ℕ → (ℕ → List ℕ) → List ℕ
-joined zero text = []
-joined (suc n) text = joined n text ++ text n
-
--- the line of the item at a place of the chain
-abbrev pub lineAt : List ℕ → List Item → (ℕ → ℕ) → ℕ → List ℕ
-lineAt order items multiplier i = itemLine (getD order i 0) (itemIn items i .label) (multiplier i)
-
--- the same, in a file that was read, with a list of multipliers
-abbrev pub lineIn : List ℕ → List ℕ → ℕ → List ℕ
-lineIn file multipliers = lineAt (orderIn (reading file)) (itemsIn (reading file)) (at multipliers)
 
 -- what an answer of training prints, with the record numbers and the items in chain order and the multiplier of each
 unfoldable pub listing : Training → List ℕ → List Item → (ℕ → ℕ) → List ℕ

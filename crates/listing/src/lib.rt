@@ -1,4 +1,4 @@
-// The listing that the training program prints, as bytes in a lent buffer. It calls `lookahead`, and may use `text` and the libraries below.
+// The listing that the training program prints, as bytes in a lent buffer. It calls `lookahead` and `lines`,
+// and may use `text` and the libraries below `lookahead`.
 
-mod lines;
 pub mod list;

@@ -8,7 +8,8 @@ use Rattle.dual_problem.specs.Items.{at}
 use Rattle.smo.specs.declared.ending.Ending.the-variants.{Converged}
 use Rattle.training.specs.declared.train.Training.the-variants.{Refused, Ended}
 use Rattle.text.specs.Decimal.{digits, decimal, signedDecimal}
-use Rattle.listing.specs.Listing.{itemLine, joined, listing, resultLine}
+use Rattle.lines.specs.Lines.{itemLine, joined, resultLine}
+use Rattle.listing.specs.Listing.{listing}
 
 -- `converged 1 0 0`, `3 + 5`, `1 - 5`
 three-records : listing (Ended (record { ending = Converged; steps = 1; lower = pos 0; upper = pos 0 })) (3 ∷ 1 ∷ [])

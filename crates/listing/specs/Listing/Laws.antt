@@ -1,19 +1,17 @@
 -- Laws of the listing. Assumes nothing.
 use mathlib.Core.Bool.{true, cond, _&&_}
 use mathlib.Core.Path.{_≡_, refl, sym, _∙_, ap}
-use mathlib.Core.List.{List, [], _∷_, _++_}
-use mathlib.Core.Logic.{⊎-elim}
-use Prim.Native.Nat.{ℕ, zero, suc, _*_, _≤_, _<_}
-use native.Mathlib.Nat.{le-refl, le-of-suc-le-suc, eq-or-lt-of-le}
+use mathlib.Core.List.{List, _++_}
+use Prim.Native.Nat.{ℕ, _≤_, _<_}
+use native.Mathlib.Nat.{le-refl}
 use native.Mathlib.Omega.{arith}
 use borrow.Author.Tests.{le-leb}
 use lib.Dec.{leb}
-use lib.IntN.{ℤ, pos}
+use lib.IntN.{ℤ}
 use lib.ListN.{length, drop, getD, length-append}
 use Rattle.integers.specs.Test.{&&-true}
 use Rattle.integers.specs.Written.{written}
 use Rattle.integers.specs.Written.Laws.{written-at}
-use Rattle.training_file.specs.declared.item.Label.{Label}
 use Rattle.training_file.specs.Refusal.{refusal}
 use Rattle.training_file.specs.Parameters.{recordsMost}
 use Rattle.reading.specs.Reading.{Reading, refused, accepted, reading}
@@ -24,34 +22,14 @@ use Rattle.dual_problem.specs.Problem.{problem}
 use Rattle.dual_problem.specs.Problem.Laws.{problem-gram}
 use Rattle.dual_problem.specs.Items.{Listed, at}
 use Rattle.dual_problem.specs.Items.Laws.Read.{Read, labels-present, read-listed}
-use Rattle.smo.specs.declared.ending.Ending.{Ending}
-use Rattle.smo.specs.declared.ending.Ending.the-variants.{Converged, Stuck, Spent}
-use Rattle.smo.specs.declared.run.Trained.{Trained}
 use Rattle.smo.specs.Run.{training}
 use Rattle.smo.specs.Run.Laws.{training-sound}
 use Rattle.smo.specs.Answer.{trainedOf}
 use Rattle.training.specs.Train.{endedWith, unchanged, trainRead}
-use Rattle.text.specs.Decimal.{decimal}
-use Rattle.text.specs.Decimal.Laws.{decimal-few, decimal-length, signed-length}
-use Rattle.listing.specs.Listing.{endingText, itemCount, itemLine, joined, labelSign, lineAt, listing, listingOf, resultLine}
-
--- ---- texts one after the other
-pub joined-cong : (n : ℕ) (f g : ℕ → List ℕ) → ((i : ℕ) → i < n → f i ≡ g i) → joined n f ≡ joined n g
-unfolding joined
-joined-cong zero f g h = refl
-joined-cong (suc n) f g h = λ k. joined-cong n f g (λ i l. h i (omega arith)) k ++ h n (le-refl (suc n)) k
-
-pub joined-rises : (n m : ℕ) (f : ℕ → List ℕ) → n ≤ m → length (joined n f) ≤ length (joined m f)
-unfolding joined
-joined-rises n zero f h = let e : n ≡ 0 = omega arith in omega (arith, ap (λ k. length (joined k f)) e)
-joined-rises n (suc m) f h =
-    ⊎-elim (λ e. omega (arith, ap (λ k. length (joined k f)) e)) (λ l. omega (arith, joined-rises n m f (le-of-suc-le-suc l), length-append (joined m f) (f m)))
-    (eq-or-lt-of-le h)
-
-pub joined-length : (n : ℕ) (f : ℕ → List ℕ) {most : ℕ} → ((i : ℕ) → i < n → length (f i) ≤ most) → length (joined n f) ≤ n * most
-unfolding joined
-joined-length zero f h = omega arith
-joined-length (suc n) f {most} h = omega (arith, length-append (joined n f) (f n), joined-length n f (λ i l. h i (omega arith)), h n (le-refl (suc n)))
+use Rattle.text.specs.Decimal.Laws.{decimal-length}
+use Rattle.lines.specs.Lines.{itemLine, joined, lineAt, resultLine}
+use Rattle.lines.specs.Lines.Laws.{item-length, joined-cong, joined-length, result-length}
+use Rattle.listing.specs.Listing.{itemCount, listing, listingOf}
 
 -- ---- the table that the code reads serves, and its count is that of the items
 pub count-items : (file : List ℕ) → itemCount (fileAnswer (reading file)) ≡ length (itemsIn (reading file))
@@ -94,20 +72,6 @@ listing-trained (accepted p order items) a g h k =
     (λ i l. ap (itemLine (getD order i 0) (itemIn items i .label)) (written-at (length items) (at (o .multipliers)) a 0 h i l)))
 
 -- ---- no listing is longer than 4,096 bytes
-item-length : (number : ℕ) (label : Label) (multiplier : ℕ) → number < 100000 → multiplier < 100000 → length (itemLine number label multiplier) ≤ 14
-unfolding itemLine
-item-length number label multiplier h k =
-    omega (arith, length-append (decimal number) ((32 ∷ labelSign label ∷ 32 ∷ []) ++ (decimal multiplier ++ (10 ∷ []))), length-append (decimal multiplier) (10 ∷ []), decimal-few number h, decimal-few multiplier k)
-
-ending-length : (ending : Ending) → length (endingText ending) ≤ 9
-ending-length Converged = omega arith
-ending-length Stuck = omega arith
-ending-length Spent = omega arith
-
-result-length : (trained : Trained) → length (resultLine trained) ≤ 76
-unfolding resultLine
-result-length trained = simp length-append (omega (arith, ending-length (trained .ending), signed-length (pos (trained .steps)), signed-length (trained .lower), signed-length (trained .upper)))
-
 pub listing-fits : (file : List ℕ) → length (listingOf (reading file)) ≤ 4096
 unfolding listing listingOf
 listing-fits file = by (reading file) refl

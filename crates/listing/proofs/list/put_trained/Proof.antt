@@ -7,7 +7,8 @@ use Rattle.reading.specs.Reading.{reading}
 use Rattle.reading.specs.Calls.{itemsIn}
 use Rattle.dual_problem.specs.Items.{Listed}
 use Rattle.text.specs.Put.Laws.{put-as, put-then, room-as, room-first, room-then}
-use Rattle.listing.specs.Listing.{itemCount, joined, lineIn, listing}
+use Rattle.lines.specs.Lines.{joined, lineIn}
+use Rattle.listing.specs.Listing.{itemCount, listing}
 use Rattle.listing.specs.Listing.Laws.{count-items, reading-listed}
 use Rattle.listing.proofs.list.put_trained.Statement.{statement}
 use Rattle.listing.proofs.list.put_trained.Tie as tie

@@ -1,12 +1,12 @@
--- `listing::lines::put_field` meets its contract. Assumes nothing.
+-- `lines::lines::put_field` meets its contract. Assumes nothing.
 use mathlib.Core.Path.{sym, ap}
 use mir.Facts.{toZ-ofZ}
 use mir.Syntax.{w64}
 use borrow.Author.Needs.{needs}
 use Rattle.text.specs.Decimal.{signedDecimal}
 use Rattle.text.specs.Put.Laws.{put-as, put-then, room-as, room-then}
-use Rattle.listing.proofs.lines.put_field.Statement.{statement}
-use Rattle.listing.proofs.lines.put_field.Tie as tie
+use Rattle.lines.proofs.lines.put_field.Statement.{statement}
+use Rattle.lines.proofs.lines.put_field.Tie as tie
 
 put-byte-requires : tie.Need-put-byte-requires
 put-byte-requires c κs = search needs

@@ -1,4 +1,4 @@
--- `listing::lines::put_result` meets its contract. Assumes nothing.
+-- `lines::lines::put_result` meets its contract. Assumes nothing.
 use mathlib.Core.Path.{_≡_, sym, ap}
 use native.Mathlib.Omega.{arith}
 use borrow.Author.Needs.{needs}
@@ -8,9 +8,9 @@ use mir.Syntax.{w64}
 use mir.Val.{toZ, ofZ}
 use Rattle.integers.specs.Bounds.{reads-element}
 use Rattle.text.specs.Put.Laws.{put-as, put-then, room-as, room-first, room-then}
-use Rattle.listing.specs.Listing.{field, resultLine}
-use Rattle.listing.proofs.lines.put_result.Statement.{statement}
-use Rattle.listing.proofs.lines.put_result.Tie as tie
+use Rattle.lines.specs.Lines.{field, resultLine}
+use Rattle.lines.proofs.lines.put_result.Statement.{statement}
+use Rattle.lines.proofs.lines.put_result.Tie as tie
 
 put-ending-requires : tie.Need-put-ending-requires
 unfolding resultLine

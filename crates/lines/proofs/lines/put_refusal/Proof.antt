@@ -1,8 +1,8 @@
--- `listing::lines::put_refusal` meets its contract. Assumes nothing.
+-- `lines::lines::put_refusal` meets its contract. Assumes nothing.
 use borrow.Author.Needs.{needs}
 use Rattle.text.specs.Put.Laws.{put-then, room-first, room-then}
-use Rattle.listing.proofs.lines.put_refusal.Statement.{statement}
-use Rattle.listing.proofs.lines.put_refusal.Tie as tie
+use Rattle.lines.proofs.lines.put_refusal.Statement.{statement}
+use Rattle.lines.proofs.lines.put_refusal.Tie as tie
 
 slice-aggregate-put-text : tie.Need-slice-aggregate-put-text
 slice-aggregate-put-text c = search needs

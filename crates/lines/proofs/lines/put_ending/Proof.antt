@@ -1,10 +1,10 @@
--- `listing::lines::put_ending` meets its contract. Assumes nothing.
+-- `lines::lines::put_ending` meets its contract. Assumes nothing.
 use mathlib.Core.Path.{sym, ap}
 use borrow.Author.Needs.{needs}
 use Rattle.text.specs.Put.Laws.{put-as, room-as}
-use Rattle.listing.specs.Listing.{endingText}
-use Rattle.listing.proofs.lines.put_ending.Statement.{statement}
-use Rattle.listing.proofs.lines.put_ending.Tie as tie
+use Rattle.lines.specs.Lines.{endingText}
+use Rattle.lines.proofs.lines.put_ending.Statement.{statement}
+use Rattle.lines.proofs.lines.put_ending.Tie as tie
 
 enum-told : tie.Need-enum-told
 enum-told c = search needs

@@ -1,9 +1,9 @@
--- `listing::lines::put_item` meets its contract. Assumes nothing.
+-- `lines::lines::put_item` meets its contract. Assumes nothing.
 use borrow.Author.Needs.{needs}
 use Rattle.text.specs.Put.Laws.{put-then, room-first, room-then}
-use Rattle.listing.specs.Listing.{itemLine}
-use Rattle.listing.proofs.lines.put_item.Statement.{statement}
-use Rattle.listing.proofs.lines.put_item.Tie as tie
+use Rattle.lines.specs.Lines.{itemLine}
+use Rattle.lines.proofs.lines.put_item.Statement.{statement}
+use Rattle.lines.proofs.lines.put_item.Tie as tie
 
 put-number-requires : tie.Need-put-number-requires
 unfolding itemLine

@@ -1,11 +1,11 @@
--- `listing::lines::put_label` meets its contract. Assumes nothing.
+-- `lines::lines::put_label` meets its contract. Assumes nothing.
 use mathlib.Core.List.{[], _∷_}
 use mathlib.Core.Path.{sym, ap}
 use borrow.Author.Needs.{needs}
 use Rattle.text.specs.Put.Laws.{put-as, room-as}
-use Rattle.listing.specs.Listing.{labelSign}
-use Rattle.listing.proofs.lines.put_label.Statement.{statement}
-use Rattle.listing.proofs.lines.put_label.Tie as tie
+use Rattle.lines.specs.Lines.{labelSign}
+use Rattle.lines.proofs.lines.put_label.Statement.{statement}
+use Rattle.lines.proofs.lines.put_label.Tie as tie
 
 enum-told : tie.Need-enum-told
 enum-told c = search needs

@@ -1,4 +1,4 @@
--- `listing::lines::put_items` meets its contract. The loop's invariant: the lines of the first i items are put. Assumes nothing.
+-- `lines::lines::put_items` meets its contract. The loop's invariant: the lines of the first i items are put. Assumes nothing.
 use mathlib.Core.List.{List}
 use mathlib.Core.Path.{_≡_, sym, ap}
 use Prim.Native.Nat.{ℕ, suc, _+_, _-_, _≤_, _<_}
@@ -11,10 +11,10 @@ use Rattle.reading.specs.Calls.{itemIn, itemsIn}
 use Rattle.dual_problem.specs.Items.{Listed, at as atPlace}
 use Rattle.text.specs.Put.{Put, Room}
 use Rattle.text.specs.Put.Laws.{put-as, put-length, put-none, put-then, room-as, room-then}
-use Rattle.listing.specs.Listing.{itemLine, joined, lineIn}
-use Rattle.listing.specs.Listing.Laws.{joined-rises}
-use Rattle.listing.proofs.lines.put_items.Statement.{statement}
-use Rattle.listing.proofs.lines.put_items.Tie as tie
+use Rattle.lines.specs.Lines.{itemLine, joined, lineIn}
+use Rattle.lines.specs.Lines.Laws.{joined-rises}
+use Rattle.lines.proofs.lines.put_items.Statement.{statement}
+use Rattle.lines.proofs.lines.put_items.Tie as tie
 
 abbrev Inv-loop : tie.InvT-loop
 Inv-loop file order count multipliers out₀ at end₀ i₀ out end i = (i ≤ count) × Put (joined i (lineIn file multipliers)) at out₀ out end
