@@ -36,7 +36,7 @@
  * CHAIN    a next number over the number of records, or a chain that meets a
  *          record twice
  * RECORD   on the chain: a label other than 1 and 2, byte 3 not 0, a feature
- *          outside -100 to 100, or a feature past those in use that is not 0
+ *          outside -127 to 127, or a feature past those in use that is not 0
  * LABELS   no item with one of the two labels, or no items at all */
 #define LOOKAHEAD_REFUSED_LENGTH 1
 #define LOOKAHEAD_REFUSED_HEADER 2
@@ -53,7 +53,7 @@
  * CEILING  a multiplier over the file's ceiling
  * BALANCE  the multipliers of items looked up and of items passed over have
  *          different sums
- * FEATURE  a feature of the word outside -100 to 100 */
+ * FEATURE  a feature of the word outside -127 to 127 */
 #define LOOKAHEAD_REFUSED_COUNT 6
 #define LOOKAHEAD_REFUSED_CEILING 7
 #define LOOKAHEAD_REFUSED_BALANCE 8

@@ -67,6 +67,11 @@ def coarser(items):
     return [(label, [feature // 5 for feature in features]) for label, features in items]
 
 
+def finer(items):
+    """The same words on a finer scale; what passes the range is held at its ends."""
+    return [(label, [max(-127, min(127, 4 * feature)) for feature in features]) for label, features in items]
+
+
 def header(records, first, features, kernel, units, ceiling, tolerance, budget):
     return struct.pack("<HHBBHIIQII", records, first, features, kernel, 0, units, ceiling, tolerance, budget, 0)
 
@@ -111,6 +116,7 @@ def samples():
     square = log(random, coarser(words(random, 40, 10, 5)), 5, 1, UNITS, 3_000, UNITS // 20, 5_000)
     stuck = log(random, words(random, 60, 5, 20), 12, 0, 20_000, 64, 0, 50_000)
     spent = log(random, words(random, 90, 0, 60), 20, 0, UNITS, 2_000, UNITS // 1000, 40)
+    fine = log(random, finer(words(random, 60, 10, 10)), 10, 0, UNITS, 1_000, UNITS // 20, 5_000)
     return {
         "example": example(),
         "clean": clean,
@@ -118,6 +124,7 @@ def samples():
         "square": square,
         "stuck": stuck,
         "spent": spent,
+        "fine": fine,
         "damaged": damaged(noisy),
         "cut": clean[:700],
     }

@@ -1,4 +1,5 @@
-"""Writes document 01's settled examples P1 to P12 for crates/settled_test: what it is run on, and the results settled there.
+"""Writes document 01's settled examples P1 to P12 for crates/settled_test: what it is run on, and the results settled there. Three words
+follow that document 01 has run only: W1 to W3, with the highest feature, the lowest, and one below it.
 
 Nothing is worked out here. What the document leaves out of a result, as the thresholds of P4, is as the theorem `settled` has it
 (crates/lookahead/specs/Settled.antt).
@@ -46,6 +47,9 @@ CASES = [
     ("P11", CERTIFY, plus_minus(), (101, 100, 0), 0, "refused 7"),
     ("P12", CLASSIFY, plus_minus(), (5, 5, 0), 3, "looked up"),
     ("P12", CLASSIFY, plus_minus(), (5, 5, 0), 0, "passed over"),
+    ("W1", CLASSIFY, plus_minus(), (5, 5, 0), 127, "looked up"),
+    ("W2", CLASSIFY, plus_minus(), (5, 5, 0), -127, "passed over"),
+    ("W3", CLASSIFY, plus_minus(), (5, 5, 0), -128, "refused 9"),
 ]
 
 

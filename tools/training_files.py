@@ -35,7 +35,7 @@ def read(file):
         at = 32 + 20 * (number - 1)
         label, zero = file[at + 2], file[at + 3]
         features = struct.unpack_from("<16b", file, at + 4)
-        if label not in (1, 2) or zero or any(not -100 <= f <= 100 for f in features) or any(features[d:]):
+        if label not in (1, 2) or zero or any(not -127 <= f <= 127 for f in features) or any(features[d:]):
             return "refused 4", []
         labels.add(label)
     if len(labels) < 2:
@@ -110,10 +110,8 @@ EDGE_CASES = [
     ("label 0", put(RECORD_3 + LABEL, 0)),
     ("label 3", put(RECORD_1 + LABEL, 3)),
     ("byte 3 not 0", put(RECORD_3 + ZERO, 1)),
-    ("feature 100", put(RECORD_3 + FEATURE, 100)),
-    ("feature 101", put(RECORD_3 + FEATURE, 101)),
-    ("feature -100", put(RECORD_3 + FEATURE, -100)),
-    ("feature -101", put(RECORD_3 + FEATURE, -101)),
+    ("feature 127", put(RECORD_3 + FEATURE, 127)),
+    ("feature -127", put(RECORD_3 + FEATURE, -127)),
     ("feature -128", put(RECORD_3 + FEATURE, -128)),
     ("feature 2 past d 1", put(RECORD_3 + FEATURE + 1, 1)),
     ("feature 16 past d 1", put(RECORD_3 + FEATURE + 15, -1)),
@@ -156,7 +154,7 @@ def draw(pick):
     file += bytes(pick.randrange(256) for _ in range(20 * m))
     for place, number in enumerate(order):
         follows = order[place + 1] if place + 1 < len(order) else 0
-        features = [pick.choice([-100, -1, 0, 1, 100, pick.randint(-100, 100)]) if i < d else 0 for i in range(16)]
+        features = [pick.choice([-127, -1, 0, 1, 127, pick.randint(-127, 127)]) if i < d else 0 for i in range(16)]
         label = place % 2 + 1 if pick.random() < 0.9 else pick.randint(1, 2)
         struct.pack_into("<HBB16b", file, 32 + 20 * (number - 1), follows, label, 0, *features)
     for _ in range(pick.choice([0, 0, 1, 1, 1, 2])):
@@ -165,11 +163,12 @@ def draw(pick):
             file[pick.randrange(32)] = pick.choice([0, 1, 2, 3, 17, 255])
         elif kind == 1 and order:
             at = 32 + 20 * (pick.choice(order) - 1)
-            file[at + pick.randrange(20)] = pick.choice([0, 1, 2, 3, 100, 101, 128, 155, 156, 255])
+            file[at + pick.randrange(20)] = pick.choice([0, 1, 2, 3, 126, 127, 128, 129, 130, 255])
         elif kind == 2 and order:
             struct.pack_into("<H", file, 32 + 20 * (pick.choice(order) - 1), pick.randint(0, m + 1))
         elif kind == 3 and pick.random() < 0.3:
             file = file[: pick.randrange(len(file) + 1)] if pick.random() < 0.5 else file + b"\0"
+            break
     return bytes(file)
 
 

@@ -1,5 +1,6 @@
-/* Reads a small file, trains on it, certifies the result and classifies two
- * words. */
+/* Reads a small file, trains on it, certifies the result and classifies words:
+ * two plain ones, those with the highest and the lowest feature, and one with a
+ * feature that none may have. */
 #include <inttypes.h>
 #include <stdbool.h>
 #include <stdio.h>
@@ -126,6 +127,9 @@ int main(void) {
     certify(file, "certify", model.multipliers, model.items);
     classify(file, &model, 3);
     classify(file, &model, 0);
+    classify(file, &model, 127);
+    classify(file, &model, -127);
+    classify(file, &model, -128);
     certify(file, "certify 5 4", unbalanced, 2);
     return 0;
 }

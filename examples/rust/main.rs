@@ -1,5 +1,6 @@
-//! Reads a small file, trains on it, certifies the result and classifies two
-//! words.
+//! Reads a small file, trains on it, certifies the result and classifies words:
+//! two plain ones, those with the highest and the lowest feature, and one with a
+//! feature that none may have.
 
 #[path = "../../include/lookahead.rs"]
 mod declared;
@@ -250,6 +251,9 @@ fn main() -> Result<(), Refusal> {
     print_certified("certify", &file, &multipliers);
     print_class(&file, &multipliers, 3);
     print_class(&file, &multipliers, 0);
+    print_class(&file, &multipliers, 127);
+    print_class(&file, &multipliers, -127);
+    print_class(&file, &multipliers, -128);
     print_certified("certify 5 4", &file, &[5, 4]);
     Ok(())
 }

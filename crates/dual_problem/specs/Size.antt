@@ -1,5 +1,6 @@
 -- How large the numbers of a problem can be, from the ranges of a file's fields: what the contracts say of each, so that whoever adds
--- them up knows that the sum fits 64 bits. Assumes nothing.
+-- them up knows that the sum fits 64 bits. Laws are in Size/Laws.antt. Assumes nothing.
+pub mod Laws
 use Prim.Native.Nat.{ℕ, _+_, _*_}
 use Rattle.training_file.specs.Layout.{featureCount, signedMost}
 use Rattle.training_file.specs.Parameters.{ceilingMost, gridMost, recordsMost}
@@ -26,3 +27,7 @@ weighedMost = recordsMost * termMost
 -- G, and with it a threshold
 abbrev pub gradientMost : ℕ
 gradientMost = weighedMost + gridMost
+
+-- a doubled score, from what all items add, twice, and both thresholds
+abbrev pub scoreMost : ℕ
+scoreMost = 2 * weighedMost + (gradientMost + gradientMost)

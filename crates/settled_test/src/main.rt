@@ -1,6 +1,6 @@
-// Runs the cases of its input through the library, a line each. They are document 01's settled examples P1 to P12, and the lines the
-// results settled there (tools/settled_cases.py). That the definitions give these results is the theorem `settled`; this shows the
-// compiled code give them.
+// Runs the cases of its input through the library, a line each. They are document 01's settled examples P1 to P12, with the lines the
+// results settled there, and words at the ends of the range (tools/settled_cases.py). That the definitions give the settled results is
+// the theorem `settled`; this shows the compiled code give them.
 
 ghost use mathlib.Core.Path.{_≡_};
 ghost use Prim.Native.Nat.{_+_, _≤_};

@@ -38,9 +38,9 @@ same LookedUp PassedOver = 0
 same PassedOver LookedUp = 0
 same PassedOver PassedOver = 1
 
--- "each a signed byte from −100 to 100"
+-- "each a signed byte from −127 to 127"
 abbrev pub featureMost : ℕ
-featureMost = 100
+featureMost = 127
 
 abbrev pub featureAllowed : ℤ → Bool
 featureAllowed feature = leZ (negℤ (pos featureMost)) feature && leZ feature (pos featureMost)

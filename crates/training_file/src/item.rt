@@ -106,9 +106,9 @@ impl Item {
     // How many features an item has, in use or not.
     pub const FEATURES: usize = 16;
 
-    pub const MIN_FEATURE: i8 = -100;
+    pub const MIN_FEATURE: i8 = -127;
 
-    pub const MAX_FEATURE: i8 = 100;
+    pub const MAX_FEATURE: i8 = 127;
 
     // Whether a feature is within its range.
     pub fn allows(feature: i8) -> bool

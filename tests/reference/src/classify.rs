@@ -28,7 +28,7 @@ pub fn doubled_score(file: &[u8], multipliers: &[u32], word: &[i8]) -> Result<i1
         return Err(6);
     }
     judge_feasible(&problem, multipliers)?;
-    // Refusal 9: a word's feature outside −100 to 100.
+    // Refusal 9: a word's feature outside −127 to 127.
     if !word.iter().all(|&feature| in_range(feature)) {
         return Err(9);
     }

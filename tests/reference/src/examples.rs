@@ -86,7 +86,7 @@ pub fn three_records() -> Vec<u8> {
     p1().stored(&[3, 1], vec![0xEE; 60])
 }
 
-/// A training that converges after 67,411 steps, more than 16 bits can count.
+/// A training that converges after 70,880 steps, more than 16 bits can count.
 pub fn long_run() -> Draft {
     let plus = |feature| (LOOKED_UP, vec![feature]);
     let minus = |feature| (PASSED_OVER, vec![feature]);
@@ -97,7 +97,7 @@ pub fn long_run() -> Draft {
         plus(-82),
         plus(-21),
         plus(-53),
-        minus(100),
+        minus(-127),
         minus(16),
         plus(-59),
         minus(-10),
@@ -112,7 +112,7 @@ pub fn long_run() -> Draft {
         minus(-14),
         plus(76),
         plus(-29),
-        plus(100),
+        plus(127),
         plus(72),
         plus(87),
     ];
@@ -138,8 +138,8 @@ pub fn full_chain(last_next: u16) -> Vec<u8> {
 }
 
 /// The cases that the paper has run only: the three records cut off after 31 and
-/// 32 bytes, with a feature at or past either end of its range, and with a record
-/// that is its own next; 256 records, all chained, and a record more.
+/// 32 bytes, with a feature at either end of its range and past the lower, and
+/// with a record that is its own next; 256 records, all chained, and a record more.
 pub fn run_only() -> Vec<Vec<u8>> {
     const NEXT_OF_RECORD_3: usize = 72;
     const FEATURE_OF_RECORD_3: usize = 76;
@@ -150,7 +150,7 @@ pub fn run_only() -> Vec<Vec<u8>> {
         file
     };
     let mut files = Vec::from([31, 32].map(|length| whole[..length].to_vec()));
-    files.extend([100i8, 101, -100, -101].map(|feature| with(FEATURE_OF_RECORD_3, feature as u8)));
+    files.extend([127i8, -127, -128].map(|feature| with(FEATURE_OF_RECORD_3, feature as u8)));
     files.push(with(NEXT_OF_RECORD_3, 3));
     files.push(full_chain(0));
     files.push(one_record_more(full_chain(0)));

@@ -10,8 +10,8 @@ pub const HEADER_BYTES: usize = 32;
 pub const RECORD_BYTES: usize = 20;
 pub const MOST_RECORDS: usize = 256;
 pub const STORED_FEATURES: usize = 16;
-pub const LOWEST_FEATURE: i8 = -100;
-pub const HIGHEST_FEATURE: i8 = 100;
+pub const LOWEST_FEATURE: i8 = -127;
+pub const HIGHEST_FEATURE: i8 = 127;
 pub const MOST_UNITS: u64 = 1_048_576;
 pub const HIGHEST_CEILING: u64 = 65_536;
 pub const HIGHEST_TOLERANCE: u64 = 1_000_000_000_000;
@@ -181,7 +181,7 @@ fn judge_labels(items: &[Item]) -> Result<(), u8> {
     }
 }
 
-/// "each a signed byte from −100 to 100"; words are judged by the same range.
+/// "each a signed byte from −127 to 127"; words are judged by the same range.
 pub fn in_range(feature: i8) -> bool {
     (LOWEST_FEATURE..=HIGHEST_FEATURE).contains(&feature)
 }

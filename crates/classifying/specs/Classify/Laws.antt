@@ -1,12 +1,13 @@
--- Laws of classifying: K of an item and the word either way round, and the answer by the stage that gives it. Assumes nothing.
+-- Laws of classifying: K of an item and the word either way round, the size of a score, and the answer by the stage that gives it. Assumes nothing.
 use mathlib.Core.Path.{_≡_, refl, sym, _∙_, ap}
 use mathlib.Core.Bool.{Bool, true, false, cond, _&&_}
 use mathlib.Core.List.{List}
-use Prim.Native.Nat.{ℕ}
+use Prim.Native.Nat.{ℕ, _≤_}
 use native.Mathlib.Omega.{arith}
 use lib.Dec.{eqb}
-use lib.IntN.{ℤ}
+use lib.IntN.{ℤ, pos, natAbs, _+ℤ_, _*ℤ_}
 use lib.ListN.{length}
+use Rattle.integers.specs.Bounds.{+ℤ-bound, -ℤ-bound, *ℤ-bound}
 use Rattle.training_file.specs.declared.parameters.Parameters.{Parameters}
 use Rattle.training_file.specs.declared.item.Item.{Item}
 use Rattle.training_file.specs.declared.refusal.Refusal.{Refusal}
@@ -17,21 +18,33 @@ use Rattle.reading.specs.Calls.{itemIn, itemsIn, fileAnswer}
 use Rattle.dual_problem.specs.Kernel.{kernelValue}
 use Rattle.dual_problem.specs.Kernel.Laws.{kernelValue-comm, kernelValue-cong}
 use Rattle.dual_problem.specs.Problem.{problem}
-use Rattle.dual_problem.specs.Items.{at}
+use Rattle.dual_problem.specs.Items.{at, weighedSum}
+use Rattle.dual_problem.specs.Size.{gradientMost, scoreMost, weighedMost}
 use Rattle.dual_problem.specs.Items.Laws.Read.{Read}
+use Rattle.certifying.specs.declared.certify.Thresholds.{Thresholds}
 use Rattle.certifying.specs.declared.multipliers.Judgement.{Judgement}
 use Rattle.certifying.specs.declared.multipliers.Judgement.the-variants as judged
 use Rattle.certifying.specs.Multipliers.{balance, isZero, judgement, withinCeilings}
 use Rattle.certifying.specs.Multipliers.Laws.{verdict}
 use Rattle.classifying.specs.declared.classify.Classified.{Classified}
 use Rattle.classifying.specs.declared.classify.Classified.the-variants.{Refused, Is}
-use Rattle.classifying.specs.Classify.{SameFeatures, classOf, classifyItems, classifyJudged, classifyRead, classifying, score, wordAllowed, wordKernel}
+use Rattle.classifying.specs.Classify.{SameFeatures, classOf, classifyItems, classifyJudged, classifyRead, classifying, score, scoreWith, wordAllowed, wordKernel}
 
 -- ---- the kernel
 -- a list with the word's features, compared with an item, gives K of the item and the word
 pub wordKernel-is : (p : Parameters) (items : List Item) (xs word : List ℤ) → SameFeatures xs word → (i : ℕ) → kernelValue (p .kernel) (p .used) xs (itemIn items i .features) ≡ wordKernel p items word i
 wordKernel-is p items xs word e i =
     kernelValue-cong (p .kernel) (p .used) xs word (itemIn items i .features) e ∙ kernelValue-comm (p .kernel) (p .used) word (itemIn items i .features)
+
+-- ---- how large a doubled score is, by the sum over the items and the thresholds
+module _ (p : Parameters) (items : List Item) (a : ℕ → ℕ) (thresholds : Thresholds) (word : List ℤ) where
+  pub score-size : natAbs (weighedSum (problem p items) a (wordKernel p items word)) ≤ weighedMost → natAbs (thresholds .lower) ≤ gradientMost → natAbs (thresholds .upper) ≤ gradientMost
+      → natAbs (scoreWith p items a thresholds word) ≤ scoreMost
+  unfolding scoreWith
+  score-size whole lower upper =
+      let sum = weighedSum (problem p items) a (wordKernel p items word) in
+      -ℤ-bound (pos 2 *ℤ sum) (thresholds .lower +ℤ thresholds .upper) (*ℤ-bound (pos 2) sum {A = 2} (omega arith) whole)
+      (+ℤ-bound (thresholds .lower) (thresholds .upper) lower upper)
 
 -- ---- the answer, by the stage that gives it
 -- a refusal of the file is the answer

@@ -39,11 +39,11 @@ pub sample-read :
 unfolding reading lengthAllowed headerAllowed parametersAllowed walk every recordAllowed featuresAllowed all labelled
 sample-read = refl
 
--- cut to 31 bytes; first record 4; record 3 its own next; that and a wrong label; a wrong label; feature 101; one label only;
+-- cut to 31 bytes; first record 4; record 3 its own next; that and a wrong label; a wrong label; feature −128; one label only;
 -- an empty chain
 pub faults-refused :
     map reading
-    (take 31 sample ∷ set sample 2 4 ∷ set sample 72 3 ∷ set (set sample 72 3) 74 9 ∷ set sample 74 9 ∷ set sample 76 101 ∷ set sample 34 1 ∷ set sample 2 0 ∷ [])
+    (take 31 sample ∷ set sample 2 4 ∷ set sample 72 3 ∷ set (set sample 72 3) 74 9 ∷ set sample 74 9 ∷ set sample 76 128 ∷ set sample 34 1 ∷ set sample 2 0 ∷ [])
     ≡ map refused (1 ∷ 2 ∷ 3 ∷ 3 ∷ 4 ∷ 4 ∷ 5 ∷ 5 ∷ [])
 unfolding reading lengthAllowed headerAllowed parametersAllowed walk every recordAllowed featuresAllowed all labelled
 faults-refused = refl

@@ -4,7 +4,7 @@
 //! `files.bin` holds, for each file, its length as two bytes, little endian, and
 //! then its bytes. `listings.txt` holds, for each file, the line `file K`, K
 //! from 1, and then what the training program prints for it. `K.log` is the file
-//! alone. The last file takes 67,411 steps; all others together take a few thousand.
+//! alone. The last file takes 70,880 steps; all others together take a few thousand.
 
 use reference::examples::{full_chain, long_run, run_only, settled, three_records};
 use reference::generate::{causes, damaged, noise, sound, sound_with, Random};

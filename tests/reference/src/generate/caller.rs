@@ -1,7 +1,8 @@
 //! What a caller hands in beside the file: multipliers and words, right and wrong.
 
+use super::draft::{any_feature, NO_FEATURE};
 use super::random::Random;
-use crate::file::{Problem, HIGHEST_CEILING};
+use crate::file::{Problem, HIGHEST_CEILING, HIGHEST_FEATURE, LOWEST_FEATURE};
 use crate::thresholds::{in_low_set, in_up_set};
 use crate::training::run;
 
@@ -126,17 +127,21 @@ pub fn word(problem: &Problem, random: &mut Random) -> Vec<i8> {
     match random.below(5) {
         0 => vec![0; d],
         1 => near_item(problem, random),
-        2 => (0..d).map(|_| random.pick(&[-100, 100])).collect(),
+        2 => (0..d)
+            .map(|_| random.pick(&[LOWEST_FEATURE, HIGHEST_FEATURE]))
+            .collect(),
         3 => (0..d).map(|_| random.between(-2, 2) as i8).collect(),
-        _ => (0..d).map(|_| random.between(-100, 100) as i8).collect(),
+        _ => (0..d).map(|_| any_feature(random)).collect(),
     }
 }
 
 fn near_item(problem: &Problem, random: &mut Random) -> Vec<i8> {
     let item = &problem.items[random.below(problem.items.len() as u64) as usize];
     let nudge = random.pick(&[0, 0, 1, 10]);
-    let near =
-        |&feature: &i8| (i64::from(feature) + random.between(-nudge, nudge)).clamp(-100, 100) as i8;
+    let near = |&feature: &i8| {
+        let nudged = i64::from(feature) + random.between(-nudge, nudge);
+        nudged.clamp(LOWEST_FEATURE.into(), HIGHEST_FEATURE.into()) as i8
+    };
     item.features.iter().map(near).collect()
 }
 
@@ -144,13 +149,12 @@ fn near_item(problem: &Problem, random: &mut Random) -> Vec<i8> {
 pub fn spoilt_word(problem: &Problem, random: &mut Random) -> Vec<i8> {
     let mut word = word(problem, random);
     let place = random.below(word.len() as u64) as usize;
-    let outside = random.pick(&[101, -101, 127, -128]);
     match random.below(6) {
         0 => word.truncate(place),
-        1 => word.push(random.pick(&[0, 5, outside])),
+        1 => word.push(random.pick(&[0, 5, NO_FEATURE])),
         2 => word.resize(16, 0),
         3 => word = any_word(random),
-        _ => word[place] = outside,
+        _ => word[place] = NO_FEATURE,
     }
     word
 }

@@ -1,9 +1,11 @@
 //! Damaged training files: every byte changed, every length, and each refusal
 //! of the file provoked by each of its causes.
 
-use super::draft::{Draft, LOOKED_UP, PASSED_OVER};
+use super::draft::{any_feature, Draft, LOOKED_UP, NO_FEATURE, PASSED_OVER};
 use super::random::Random;
-use crate::file::{number, HEADER_BYTES, MOST_RECORDS, RECORD_BYTES};
+use crate::file::{
+    number, HEADER_BYTES, HIGHEST_FEATURE, LOWEST_FEATURE, MOST_RECORDS, RECORD_BYTES,
+};
 
 /// The file after one to three random damages. Two at once show which refusal
 /// comes first.
@@ -44,7 +46,7 @@ fn change(file: &mut [u8], byte: usize, random: &mut Random) {
     }
 }
 
-const CHANGES: usize = 10;
+const CHANGES: usize = 11;
 
 fn changes(value: u8, noise: u8) -> [u8; CHANGES] {
     [
@@ -55,8 +57,9 @@ fn changes(value: u8, noise: u8) -> [u8; CHANGES] {
         1,
         2,
         255,
-        101,
-        (-101i8) as u8,
+        HIGHEST_FEATURE as u8,
+        LOWEST_FEATURE as u8,
+        NO_FEATURE as u8,
         noise,
     ]
 }
@@ -151,7 +154,7 @@ const PLACES: [usize; 4] = [4, 1, 6, 3];
 impl Base {
     fn draw(random: &mut Random) -> Base {
         let labels = [LOOKED_UP, PASSED_OVER, PASSED_OVER, LOOKED_UP];
-        let mut features = || (0..3).map(|_| random.between(-100, 100) as i8).collect();
+        let mut features = || (0..3).map(|_| any_feature(random)).collect();
         let draft = Draft {
             features: 3,
             kernel: 0,
@@ -228,10 +231,12 @@ impl Base {
             files.extend([0, 3, 128, 255].map(|label| at(2, label)));
             files.extend([1, 128, 255].map(|third| at(3, third)));
             for used in 4..7 {
-                files.extend([101, 127, -101, -128i8].map(|feature| at(used, feature as u8)));
+                files.push(at(used, NO_FEATURE as u8));
             }
             for past in 7..RECORD_BYTES {
-                files.extend([1, -1, 100i8].map(|feature| at(past, feature as u8)));
+                files.extend(
+                    [1, -1, HIGHEST_FEATURE, NO_FEATURE].map(|feature| at(past, feature as u8)),
+                );
             }
         }
         files

@@ -1,10 +1,18 @@
 //! A training file before it is laid out in bytes.
 
-use crate::file::{HEADER_BYTES, RECORD_BYTES};
+use super::random::Random;
+use crate::file::{HEADER_BYTES, HIGHEST_FEATURE, LOWEST_FEATURE, RECORD_BYTES};
 
 /// Label bytes of the file.
 pub const LOOKED_UP: u8 = 1;
 pub const PASSED_OVER: u8 = 2;
+
+/// The one signed byte that no feature may be.
+pub const NO_FEATURE: i8 = -128;
+
+pub fn any_feature(random: &mut Random) -> i8 {
+    random.between(LOWEST_FEATURE.into(), HIGHEST_FEATURE.into()) as i8
+}
 
 #[derive(Clone, Debug)]
 pub struct Draft {

@@ -47,12 +47,13 @@ fn longest(random: &mut Random) -> Vec<u8> {
 }
 
 /// What must be met in each comparison, whatever the seed: the longest training
-/// and the longest chains, the settled examples, every cause of a refusal, and
-/// small files with every damage of `every_damage`.
+/// and the longest chains, the settled examples and those run only, every cause
+/// of a refusal, and small files with every damage of `every_damage`.
 pub fn systematic(random: &mut Random) -> Vec<Vec<u8>> {
     let mut files = vec![examples::long_run().plain(), longest(random)];
     files.extend([0, 1, 128, 256, 257].map(examples::full_chain));
     files.extend(examples::settled());
+    files.extend(examples::run_only());
     files.extend(causes(random).into_iter().map(|(_, file)| file));
     for items in [2, 3, 4] {
         let file = sound::small(random, items);

@@ -4,11 +4,14 @@
 use super::draft::{Draft, LOOKED_UP, PASSED_OVER};
 use super::random::Random;
 use crate::file::{
-    read, HIGHEST_BUDGET, HIGHEST_CEILING, HIGHEST_TOLERANCE, MOST_RECORDS, MOST_UNITS,
-    RECORD_BYTES,
+    read, HIGHEST_BUDGET, HIGHEST_CEILING, HIGHEST_FEATURE, HIGHEST_TOLERANCE, LOWEST_FEATURE,
+    MOST_RECORDS, MOST_UNITS, RECORD_BYTES,
 };
 use crate::kernel::{eta, table};
 use crate::training::{run, Ending};
+
+const LOWEST: i64 = LOWEST_FEATURE as i64;
+const HIGHEST: i64 = HIGHEST_FEATURE as i64;
 
 /// How much work a training may be, in multiply-adds of the reference or so;
 /// budgets are cut to it, or a comparison would wait for single files.
@@ -31,11 +34,11 @@ pub fn sound(random: &mut Random) -> Vec<u8> {
 fn heavy(random: &mut Random) -> Vec<u8> {
     let items = random.pick(&[8, 40, 128, MOST_RECORDS]);
     let far = random.pick(&[LOOKED_UP, PASSED_OVER]);
-    let others_lowest = random.pick(&[-1, 90]);
+    let others_lowest = random.pick(&[-1, HIGHEST - 10]);
     let mut item = |k: usize| {
         let label = if k % 2 == 0 { LOOKED_UP } else { PASSED_OVER };
         let (lowest, highest) = if label == far {
-            (97, 100)
+            (HIGHEST - 3, HIGHEST)
         } else {
             (others_lowest, others_lowest + 2)
         };
@@ -234,7 +237,7 @@ fn labelled_items(
 enum Style {
     /// All from −k to k.
     Within(i64),
-    /// Only −100, 0 and 100.
+    /// Only 0 and the two ends of the range.
     Ends,
     /// One cloud for each label, apart by some distance.
     Clouds { apart: i64, width: i64 },
@@ -250,7 +253,7 @@ impl Style {
     /// is so far above S that nothing ever moves.
     fn draw(random: &mut Random, kernel: u8) -> Style {
         let small = kernel == 1 && random.chance(3, 4);
-        let most = if small { 6 } else { 100 };
+        let most = if small { 6 } else { HIGHEST };
         match random.below(12) {
             0 | 1 => Style::Within(most),
             2..=4 => Style::Within(random.pick(&[1, 1, 2, 3, 10])),
@@ -265,7 +268,7 @@ impl Style {
     }
 
     fn features(&self, random: &mut Random, label: u8, count: usize) -> Vec<i8> {
-        let scale = random.pick(&[0, 1, 2, 3, 8, 30, 100]);
+        let scale = random.pick(&[0, 1, 2, 3, 8, 30, HIGHEST]);
         (0..count)
             .map(|_| self.feature(random, label, scale))
             .collect()
@@ -274,7 +277,7 @@ impl Style {
     fn feature(&self, random: &mut Random, label: u8, scale: i64) -> i8 {
         let value = match *self {
             Style::Within(k) => random.between(-k, k),
-            Style::Ends => random.pick(&[-100, 0, 100]),
+            Style::Ends => random.pick(&[LOWEST, 0, HIGHEST]),
             Style::Clouds { apart, width } => {
                 let centre = if label == LOOKED_UP { apart } else { -apart };
                 centre + random.between(-width, width)

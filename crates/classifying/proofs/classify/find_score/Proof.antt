@@ -6,14 +6,14 @@ use lib.IntN.{ℤ, pos, natAbs, _+ℤ_, _-ℤ_, _*ℤ_}
 use mir.Syntax.{w64}
 use mir.Val.{toZ, ofZ}
 use borrow.Author.Needs.{needs}
-use Rattle.integers.specs.Bounds.{+ℤ-bound, -ℤ-bound, *ℤ-bound, fits-width, reads-back}
+use Rattle.integers.specs.Bounds.{+ℤ-bound, *ℤ-bound, fits-width, reads-back}
 use Rattle.reading.specs.Reading.{reading}
 use Rattle.reading.specs.Calls.{itemsIn}
 use Rattle.dual_problem.specs.Problem.{Problem}
 use Rattle.dual_problem.specs.Items.{at, problemOf, weighedSum}
-use Rattle.dual_problem.specs.Size.{gradientMost, weighedMost}
+use Rattle.dual_problem.specs.Size.{gradientMost, scoreMost, weighedMost}
 use Rattle.classifying.specs.Classify.{scoreWith, wordKernel}
-use Rattle.classifying.specs.Classify.Laws.{wordKernel-is}
+use Rattle.classifying.specs.Classify.Laws.{score-size, wordKernel-is}
 use Rattle.classifying.proofs.classify.find_score.Statement.{statement}
 use Rattle.classifying.proofs.classify.find_score.Tie as tie
 
@@ -70,8 +70,11 @@ module _ (c : tie.After-weighed-sum) where
   score-is : toZ w64 (ofZ w64 (pos 2 *ℤ toZ w64 (ofZ w64 (c .weighed-sum .result)))) -ℤ toZ w64 (ofZ w64 (toZ w64 (ofZ w64 b-low) +ℤ toZ w64 (ofZ w64 b-up))) ≡ pos 2 *ℤ whole -ℤ (b-low +ℤ b-up)
   score-is = λ i. reads-back w64 twice-is (omega (arith, twice-size)) i -ℤ reads-back w64 both-are (omega (arith, both-size)) i
 
-  score-size : natAbs (pos 2 *ℤ whole -ℤ (b-low +ℤ b-up)) ≤ 2 * weighedMost + (gradientMost + gradientMost)
-  score-size = -ℤ-bound (pos 2 *ℤ whole) (b-low +ℤ b-up) twice-size both-size
+  size : natAbs (pos 2 *ℤ whole -ℤ (b-low +ℤ b-up)) ≤ scoreMost
+  unfolding s P a whole b-low b-up scoreWith
+  size =
+      score-size (s .args .parameters) (itemsIn (reading (s .args .file .now))) a (s .args .thresholds) (s .args .word .now) whole-size (s .pre .lower-size)
+      (s .pre .upper-size)
 
 mul-result : tie.Need-mul-result
 mul-result c = fits-width w64 (twice-is c) (omega (arith, twice-size c))
@@ -82,11 +85,11 @@ add-result c = fits-width w64 (both-are (c .before .before)) (omega (arith, both
 
 sub-result : tie.Need-sub-result
 unfolding s b-low b-up
-sub-result c = fits-width w64 (score-is (c .before .before)) (omega (arith, score-size (c .before .before)))
+sub-result c = fits-width w64 (score-is (c .before .before)) (omega (arith, size (c .before .before)))
 
 returns : tie.Need-returns
 unfolding s P a whole b-low b-up scoreWith
-returns c = reads-back w64 (score-is (c .before .before)) (omega (arith, score-size (c .before .before)))
+returns c = reads-back w64 (score-is (c .before .before)) (omega (arith, size (c .before .before)))
 
 pub find-score-spec : {M : Type 1} → statement M
 find-score-spec =
