@@ -10,6 +10,9 @@ Run it in the repository's folder: python3 tools/training_files.py
 import random
 import struct
 
+# The ends of a feature's range.
+LOWEST, HIGHEST = -127, 127
+
 
 def read(file):
     """The answer, and the record numbers in chain order, none where the file is refused."""
@@ -35,7 +38,7 @@ def read(file):
         at = 32 + 20 * (number - 1)
         label, zero = file[at + 2], file[at + 3]
         features = struct.unpack_from("<16b", file, at + 4)
-        if label not in (1, 2) or zero or any(not -127 <= f <= 127 for f in features) or any(features[d:]):
+        if label not in (1, 2) or zero or any(not LOWEST <= f <= HIGHEST for f in features) or any(features[d:]):
             return "refused 4", []
         labels.add(label)
     if len(labels) < 2:
@@ -154,7 +157,7 @@ def draw(pick):
     file += bytes(pick.randrange(256) for _ in range(20 * m))
     for place, number in enumerate(order):
         follows = order[place + 1] if place + 1 < len(order) else 0
-        features = [pick.choice([-127, -1, 0, 1, 127, pick.randint(-127, 127)]) if i < d else 0 for i in range(16)]
+        features = [pick.choice([LOWEST, -1, 0, 1, HIGHEST, pick.randint(LOWEST, HIGHEST)]) if i < d else 0 for i in range(16)]
         label = place % 2 + 1 if pick.random() < 0.9 else pick.randint(1, 2)
         struct.pack_into("<HBB16b", file, 32 + 20 * (number - 1), follows, label, 0, *features)
     for _ in range(pick.choice([0, 0, 1, 1, 1, 2])):

@@ -1,4 +1,4 @@
-// One step of the walk along the chain, on slice and numbers. Reading takes it through `walker`.
+// One step of the walk along the chain, on slice and numbers. `walks` takes it through `walker`.
 
 ghost use mathlib.Core.Path.{_≡_};
 ghost use Rattle.training_file.specs.Layout.{firstRecord};

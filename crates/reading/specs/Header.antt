@@ -39,7 +39,7 @@ headerAllowed file =
     && kernelAllowed (kernelByte file)
     && parametersAllowed (parametersOf file)
 
--- ---- what the code of both stages answers
+-- ---- what the code answers: in stage 1 the number of records stored, in stage 2 the parameters
 
 abbrev pub storedAnswer : List ℕ → Count
 storedAnswer file = countIf (lengthAllowed file) 1 (recordsStored file)

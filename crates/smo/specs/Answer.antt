@@ -21,7 +21,7 @@ use Rattle.smo.specs.declared.ending.Ending.the-variants.{Converged, Stu
 use Rattle.smo.specs.declared.run.Decision.{Decision}
 use Rattle.smo.specs.declared.run.Decision.the-variants.{Ends, Moves}
 use Rattle.smo.specs.declared.run.Trained.{Trained}
-use Rattle.smo.specs.Run.{Outcome, run, training}
+use Rattle.smo.specs.Run.{Outcome, run}
 
 -- "1. if b_low ≤ b_up + 2 × t, the ending is converged; 2. if no pair moves, it is stuck"; else the working pair moves
 abbrev pub decided : Bool → Pair → Decision
@@ -54,17 +54,10 @@ pub record RunLeft : Type 0 where
 abbrev pub leftBy : Problem → ℕ → Outcome → List ℕ → List ℤ → RunLeft
 leftBy P n o a g = record { trained = trainedOf P o; multipliers = a; gradient = written n (gradient P (at (o .multipliers))) g }
 
--- where the outcome's multipliers are the list, and where they stand in its first n places
+-- where the outcome's multipliers are the list
 abbrev pub leftWhole : Problem → ℕ → Outcome → List ℤ → RunLeft
 leftWhole P n o g = leftBy P n o (o .multipliers) g
-
-abbrev pub leftFirst : Problem → ℕ → Outcome → List ℕ → List ℤ → RunLeft
-leftFirst P n o a g = leftBy P n o (written n (at (o .multipliers)) a) g
 
 -- the run on the items of a file, from the multipliers a
 abbrev pub runFrom : List ℕ → Parameters → ℕ → ℕ → List ℕ → List ℤ → RunLeft
 runFrom file p n limit a g = leftWhole (problemOf file p) n (run (problemOf file p) (p .tolerance) limit a) g
-
--- training on the items of a file
-abbrev pub trainFrom : List ℕ → Parameters → ℕ → List ℕ → List ℤ → RunLeft
-trainFrom file p n a g = leftFirst (problemOf file p) n (training (problemOf file p) (p .tolerance) (p .budget)) a g

@@ -15,13 +15,13 @@ use Rattle.training_file.specs.declared.refusal.Refusal.{Refusal}
 use Rattle.training_file.specs.Refusal.{refusal}
 use Rattle.reading.specs.Reading.{Reading, refused, accepted, reading}
 use Rattle.dual_problem.specs.Problem.{BoundedDistance, Problem, gradient, problem}
-use Rattle.dual_problem.specs.Items.{at}
+use Rattle.dual_problem.specs.Items.{at, problemOf}
 use Rattle.working_pair.specs.Move.{NoMoveLowers}
 use Rattle.smo.specs.declared.ending.Ending.the-variants.{Stuck}
 use Rattle.smo.specs.declared.run.Trained.{Trained}
 use Rattle.smo.specs.Run.{Outcome, training}
 use Rattle.smo.specs.Run.Meaning.{GapPasses, Means}
-use Rattle.smo.specs.Answer.{trainedOf}
+use Rattle.smo.specs.Answer.{RunLeft, leftBy, trainedOf}
 use Rattle.training.specs.declared.train.Training.{Training}
 use Rattle.training.specs.declared.train.Training.the-variants.{Refused, Ended}
 
@@ -55,6 +55,12 @@ trainRead (accepted p order items) a g =
 -- any file, with the lists as they are lent
 abbrev pub trainFile : List ℕ → List ℕ → List ℤ → TrainingLeft
 trainFile file a g = trainRead (reading file) a g
+
+-- for the code: what a run leaves on the items of a file that was read, with the outcome's multipliers in the first n places of their list
+abbrev pub trainFrom : List ℕ → Parameters → ℕ → List ℕ → List ℤ → RunLeft
+trainFrom file p n a g =
+    let o = training (problemOf file p) (p .tolerance) (p .budget) in
+    leftBy (problemOf file p) n o (written n (at (o .multipliers)) a) g
 
 -- Demand 3, of the result and the multipliers left: they are feasible and no others, on this grid or on a finer one, beat them by more
 -- than the bound with the thresholds answered; each ending means what document 01 says; and training is stuck exactly when the gap

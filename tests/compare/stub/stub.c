@@ -14,7 +14,7 @@
 #endif
 #define WRONG(k) (MUTATION == (k))
 
-enum { MOST = 256 };
+enum { MOST = 256, LOWEST = -127, HIGHEST = 127 };
 
 typedef struct {
     int d, kernel, n, record[MOST], y[MOST];
@@ -47,7 +47,7 @@ static uint8_t judge_record(const uint8_t *r, int d) {
     if (r[3] != 0 && !WRONG(33)) return 4;
     for (int k = 0; k < 16; k++) {
         int8_t f = (int8_t)r[4 + k];
-        int highest = WRONG(29) ? 126 : 127, lowest = WRONG(30) ? -128 : WRONG(43) ? -126 : -127;
+        int highest = HIGHEST - WRONG(29), lowest = LOWEST - WRONG(30) + WRONG(43);
         if (f < lowest || f > highest) return 4;
         if (k >= d && f != 0 && !WRONG(44)) return 4;
     }
@@ -294,7 +294,7 @@ uint8_t lookahead_certify(const uint8_t *file, size_t len, const uint32_t *multi
 }
 
 static uint8_t judge_word(const int8_t *word, size_t len) {
-    int highest = WRONG(111) ? 126 : 127, lowest = WRONG(112) ? -128 : WRONG(113) ? -126 : -127;
+    int highest = HIGHEST - WRONG(111), lowest = LOWEST - WRONG(112) + WRONG(113);
     for (size_t k = 0; k < len; k++)
         if (word[k] > highest || word[k] < lowest) return 9;
     return 0;

@@ -2,7 +2,7 @@
 use mathlib.Core.Path.{_≡_, refl, sym, _∙_, ap}
 use mathlib.Core.Bool.{Bool, true, false, cond, _&&_}
 use mathlib.Core.List.{List}
-use Prim.Native.Nat.{ℕ, _≤_}
+use Prim.Native.Nat.{ℕ, _+_, _*_, _≤_}
 use native.Mathlib.Omega.{arith}
 use lib.Dec.{eqb}
 use lib.IntN.{ℤ, pos, natAbs, _+ℤ_, _*ℤ_}
@@ -36,15 +36,20 @@ pub wordKernel-is : (p : Parameters) (items : List Item) (xs word : List ℤ) �
 wordKernel-is p items xs word e i =
     kernelValue-cong (p .kernel) (p .used) xs word (itemIn items i .features) e ∙ kernelValue-comm (p .kernel) (p .used) word (itemIn items i .features)
 
--- ---- how large a doubled score is, by the sum over the items and the thresholds
+-- ---- how large a doubled score and its parts are, by the sum over the items and the thresholds
 module _ (p : Parameters) (items : List Item) (a : ℕ → ℕ) (thresholds : Thresholds) (word : List ℤ) where
-  pub score-size : natAbs (weighedSum (problem p items) a (wordKernel p items word)) ≤ weighedMost → natAbs (thresholds .lower) ≤ gradientMost → natAbs (thresholds .upper) ≤ gradientMost
-      → natAbs (scoreWith p items a thresholds word) ≤ scoreMost
+  abbrev whole : ℤ
+  whole = weighedSum (problem p items) a (wordKernel p items word)
+
+  pub score-size : natAbs whole ≤ weighedMost → natAbs (thresholds .lower) ≤ gradientMost → natAbs (thresholds .upper) ≤ gradientMost
+      → (natAbs (pos 2 *ℤ whole) ≤ 2 * weighedMost)
+      × (natAbs (thresholds .lower +ℤ thresholds .upper) ≤ gradientMost + gradientMost)
+      × (natAbs (scoreWith p items a thresholds word) ≤ scoreMost)
   unfolding scoreWith
-  score-size whole lower upper =
-      let sum = weighedSum (problem p items) a (wordKernel p items word) in
-      -ℤ-bound (pos 2 *ℤ sum) (thresholds .lower +ℤ thresholds .upper) (*ℤ-bound (pos 2) sum {A = 2} (omega arith) whole)
-      (+ℤ-bound (thresholds .lower) (thresholds .upper) lower upper)
+  score-size h l u =
+      let twice = *ℤ-bound (pos 2) whole {A = 2} (omega arith) h in
+      let both = +ℤ-bound (thresholds .lower) (thresholds .upper) l u in
+      (twice, both, -ℤ-bound (pos 2 *ℤ whole) (thresholds .lower +ℤ thresholds .upper) twice both)
 
 -- ---- the answer, by the stage that gives it
 -- a refusal of the file is the answer

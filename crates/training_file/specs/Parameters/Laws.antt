@@ -1,10 +1,10 @@
 -- Laws of the parameters: when they are allowed, and what an answer says of its byte or its parameters. Assumes nothing.
 use mathlib.Core.Path.{_≡_, refl, sym}
 use mathlib.Core.Bool.{Bool, true, false, _&&_, and-false}
-use Prim.Native.Nat.{ℕ, _≤_, _<_}
+use Prim.Native.Nat.{ℕ, _≤_}
 use native.Mathlib.Omega.{arith}
 use lib.Dec.{leb, eqb}
-use borrow.Author.Tests.{le-leb, lt-leb, leb-true, eqb-true, eqb-false}
+use borrow.Author.Tests.{leb-true, eqb-true, eqb-false}
 use Rattle.integers.specs.Test.{&&-both, chose-first, chose-second}
 use Rattle.training_file.specs.declared.refusal.Refusal.{Refusal}
 use Rattle.training_file.specs.declared.parameters.Kernel.{Kernel}
@@ -18,15 +18,6 @@ use Rattle.training_file.specs.Answers.{kernelAnswer}
 -- ---- a range
 
 module _ (least greatest value : ℕ) where
-  pub within-true : least ≤ value → value ≤ greatest → within least greatest value ≡ true
-  within-true l u = rw (le-leb least value l, le-leb value greatest u)
-
-  pub below-range : value < least → within least greatest value ≡ false
-  below-range h = rw (lt-leb least value h)
-
-  pub above-range : greatest < value → within least greatest value ≡ false
-  above-range h = rw (lt-leb value greatest h) (and-false (leb least value))
-
   pub within-both : within least greatest value ≡ true → (least ≤ value) × (value ≤ greatest)
   within-both h =
       let both = &&-both (leb least value) (leb value greatest) h in

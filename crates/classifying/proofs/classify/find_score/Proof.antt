@@ -6,7 +6,7 @@ use lib.IntN.{ℤ, pos, natAbs, _+ℤ_, _-ℤ_, _*ℤ_}
 use mir.Syntax.{w64}
 use mir.Val.{toZ, ofZ}
 use borrow.Author.Needs.{needs}
-use Rattle.integers.specs.Bounds.{+ℤ-bound, *ℤ-bound, fits-width, reads-back}
+use Rattle.integers.specs.Bounds.{fits-width, reads-back}
 use Rattle.reading.specs.Reading.{reading}
 use Rattle.reading.specs.Calls.{itemsIn}
 use Rattle.dual_problem.specs.Problem.{Problem}
@@ -49,9 +49,6 @@ module _ (c : tie.After-weighed-sum) where
   twice-is : pos 2 *ℤ toZ w64 (ofZ w64 (c .weighed-sum .result)) ≡ pos 2 *ℤ whole
   twice-is = ap (λ z. pos 2 *ℤ z) (reads-back w64 whole-is (omega (arith, whole-size)))
 
-  twice-size : natAbs (pos 2 *ℤ whole) ≤ 2 * weighedMost
-  twice-size = *ℤ-bound (pos 2) whole {A = 2} (omega arith) whole-size
-
   -- the thresholds, as the code and as the definition has them
   b-low : ℤ
   b-low = s .args .thresholds .lower
@@ -59,37 +56,33 @@ module _ (c : tie.After-weighed-sum) where
   b-up : ℤ
   b-up = s .args .thresholds .upper
 
+  sizes : (natAbs (pos 2 *ℤ whole) ≤ 2 * weighedMost) × (natAbs (b-low +ℤ b-up) ≤ gradientMost + gradientMost) × (natAbs (pos 2 *ℤ whole -ℤ (b-low +ℤ b-up)) ≤ scoreMost)
+  unfolding s P a whole b-low b-up scoreWith
+  sizes =
+      score-size (s .args .parameters) (itemsIn (reading (s .args .file .now))) a (s .args .thresholds) (s .args .word .now) whole-size (s .pre .lower-size)
+      (s .pre .upper-size)
+
   both-are : toZ w64 (ofZ w64 b-low) +ℤ toZ w64 (ofZ w64 b-up) ≡ b-low +ℤ b-up
   unfolding s b-low b-up
   both-are = λ i. reads-back w64 {m = s .args .thresholds .lower} refl (omega (arith, s .pre .lower-size)) i +ℤ reads-back w64 {m = s .args .thresholds .upper} refl (omega (arith, s .pre .upper-size)) i
 
-  both-size : natAbs (b-low +ℤ b-up) ≤ gradientMost + gradientMost
-  unfolding s b-low b-up
-  both-size = +ℤ-bound (s .args .thresholds .lower) (s .args .thresholds .upper) (s .pre .lower-size) (s .pre .upper-size)
-
   score-is : toZ w64 (ofZ w64 (pos 2 *ℤ toZ w64 (ofZ w64 (c .weighed-sum .result)))) -ℤ toZ w64 (ofZ w64 (toZ w64 (ofZ w64 b-low) +ℤ toZ w64 (ofZ w64 b-up))) ≡ pos 2 *ℤ whole -ℤ (b-low +ℤ b-up)
-  score-is = λ i. reads-back w64 twice-is (omega (arith, twice-size)) i -ℤ reads-back w64 both-are (omega (arith, both-size)) i
-
-  size : natAbs (pos 2 *ℤ whole -ℤ (b-low +ℤ b-up)) ≤ scoreMost
-  unfolding s P a whole b-low b-up scoreWith
-  size =
-      score-size (s .args .parameters) (itemsIn (reading (s .args .file .now))) a (s .args .thresholds) (s .args .word .now) whole-size (s .pre .lower-size)
-      (s .pre .upper-size)
+  score-is = λ i. reads-back w64 twice-is (omega (arith, sizes .0)) i -ℤ reads-back w64 both-are (omega (arith, sizes .1)) i
 
 mul-result : tie.Need-mul-result
-mul-result c = fits-width w64 (twice-is c) (omega (arith, twice-size c))
+mul-result c = fits-width w64 (twice-is c) (omega (arith, sizes c .0))
 
 add-result : tie.Need-add-result
 unfolding s b-low b-up
-add-result c = fits-width w64 (both-are (c .before .before)) (omega (arith, both-size (c .before .before)))
+add-result c = fits-width w64 (both-are (c .before .before)) (omega (arith, sizes (c .before .before) .1))
 
 sub-result : tie.Need-sub-result
 unfolding s b-low b-up
-sub-result c = fits-width w64 (score-is (c .before .before)) (omega (arith, size (c .before .before)))
+sub-result c = fits-width w64 (score-is (c .before .before)) (omega (arith, sizes (c .before .before) .2))
 
 returns : tie.Need-returns
 unfolding s P a whole b-low b-up scoreWith
-returns c = reads-back w64 (score-is (c .before .before)) (omega (arith, size (c .before .before)))
+returns c = reads-back w64 (score-is (c .before .before)) (omega (arith, sizes (c .before .before) .2))
 
 pub find-score-spec : {M : Type 1} → statement M
 find-score-spec =
