@@ -10,7 +10,6 @@ ghost use Rattle.certifying.specs.Multipliers.{balance, judgement, judge
 use dual_problem::label::ceiling;
 use dual_problem::label::with_sign;
 use reading::reader::fetch_label;
-use training_file::item::Label;
 use training_file::parameters::Parameters;
 use training_file::refusal::Refusal;
 

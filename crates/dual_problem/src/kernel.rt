@@ -4,6 +4,7 @@
 
 ghost use mathlib.Core.Path.{_≡_};
 ghost use Prim.Native.Nat.{_*_, _≤_};
+ghost use lib.ListN.{length};
 ghost use lib.IntN.{_*ℤ_, natAbs};
 ghost use Rattle.training_file.specs.Layout.{featureCount, signedMost};
 ghost use Rattle.dual_problem.specs.Size.{kernelMost, linearMost};
@@ -12,28 +13,41 @@ use training_file::item::Item;
 use training_file::parameters::Kernel;
 use training_file::parameters::Parameters;
 
-fn product(x: i8, z: i8) -> i64
+// At 32 bits, which a sum of sixteen such products fits: the loop over them takes less than half the time that it takes at 64.
+fn product(x: i8, z: i8) -> i32
     ensures value { λ r. ⌜ r ≡ x *ℤ z ⌝ }
     ensures size { λ r. ⌜ natAbs r ≤ signedMost * signedMost ⌝ }
 {
-    (x as i64) * (z as i64)
+    (x as i32) * (z as i32)
 }
 
 // The sum of products of the features in use.
-fn feature_product(used: usize, x: Item, z: Item) -> i64
-    requires { ⌜ used ≤ featureCount ⌝ }
-    ensures value { λ r. ⌜ r ≡ linear used (x .features) (z .features) ⌝ }
+fn feature_product(used: usize, xs: &[i8], zs: &[i8]) -> i64
+    requires { ⌜ (used ≤ featureCount) × (used ≤ length (now xs)) × (used ≤ length (now zs)) ⌝ }
+    ensures value { λ r. ⌜ r ≡ linear used (now (xs .entry)) (now (zs .entry)) ⌝ }
     ensures size { λ r. ⌜ natAbs r ≤ linearMost ⌝ }
 {
-    let xs = x.features;
-    let zs = z.features;
-    let mut sum: i64 = 0;
+    let mut sum: i32 = 0;
     let mut p = 0;
     while p < used {
         sum += product(xs[p], zs[p]);
         p += 1;
     }
-    sum
+    sum as i64
+}
+
+// K of two items whose features are lent: neither is copied, however many kernel values it goes into.
+pub fn kernel_of_features(parameters: Parameters, xs: &[i8], zs: &[i8]) -> i64
+    requires { ⌜ (parameters .used ≤ featureCount) × (parameters .used ≤ length (now xs)) × (parameters .used ≤ length (now zs)) ⌝ }
+    ensures value { λ r. ⌜ r ≡ kernelValue (parameters .kernel) (parameters .used) (now (xs .entry)) (now (zs .entry)) ⌝ }
+    ensures size { λ r. ⌜ natAbs r ≤ kernelMost ⌝ }
+{
+    let sum = feature_product(parameters.used, xs, zs);
+    let kernel = parameters.kernel;
+    match kernel {
+        Kernel::Linear => sum,
+        Kernel::Square => (sum + 1) * (sum + 1),
+    }
 }
 
 // K of two items.
@@ -42,10 +56,7 @@ pub fn kernel_value(parameters: Parameters, x: Item, z: Item) -> i64
     ensures value { λ r. ⌜ r ≡ kernelValue (parameters .kernel) (parameters .used) (x .features) (z .features) ⌝ }
     ensures size { λ r. ⌜ natAbs r ≤ kernelMost ⌝ }
 {
-    let sum = feature_product(parameters.used, x, z);
-    let kernel = parameters.kernel;
-    match kernel {
-        Kernel::Linear => sum,
-        Kernel::Square => (sum + 1) * (sum + 1),
-    }
+    let xs = x.features;
+    let zs = z.features;
+    kernel_of_features(parameters, &xs, &zs)
 }

@@ -30,9 +30,9 @@ steppedGradient P a i j n g = written n (gradient P (at (stepped P a i j))) g
 abbrev pub shifted : ℤ → ℕ → ℤ → ℤ → ℤ
 shifted g s kj ki = g +ℤ pos s *ℤ (kj -ℤ ki)
 
--- the same for the item at place k, where x moved down and z up
-abbrev pub updated : Parameters → List Item → Item → Item → ℕ → List ℤ → ℕ → ℤ
-updated p items x z s g k = shifted (getD g k (pos 0)) s (kernelBetween p z (itemIn items k)) (kernelBetween p x (itemIn items k))
+-- the same for the item at place k, where the item with the features xs moved down and the one with zs up
+abbrev pub updated : Parameters → List Item → List ℤ → List ℤ → ℕ → List ℤ → ℕ → ℤ
+updated p items xs zs s g k = shifted (getD g k (pos 0)) s (kernelBetween p zs (itemIn items k .features)) (kernelBetween p xs (itemIn items k .features))
 
 -- two places of which the first one's multiplier, times y, can fall by s, and the second one's rise, below the highest ceiling
 pub record Movable (a : List ℕ) (i : ℕ) (x : Label) (j : ℕ) (z : Label) (s : ℕ) : Type 0 where

@@ -13,7 +13,7 @@ ghost use Rattle.dual_problem.specs.Items.{problemOf};
 ghost use Rattle.working_pair.specs.Step.{Candidate, movedPair, raised, rise};
 ghost use Rattle.working_pair.specs.State.{State};
 ghost use Rattle.smo_step.specs.Update.{stepped, steppedGradient, shifted, updated, Movable, Updatable};
-use dual_problem::kernel::kernel_value;
+use dual_problem::kernel::kernel_of_features;
 use reading::reader::fetch;
 use training_file::item::Item;
 use training_file::item::Label;
@@ -73,16 +73,20 @@ fn update_gradient(
     requires { ⌜ Updatable (now file) (now order) count parameters (now gradient) amount ⌝ }
     ensures { λ _.
         ⌜ now (gradient .exit)
-        ≡ written count (updated parameters (itemsIn (reading (now (file .entry)))) x z amount (now (gradient .entry))) (now (gradient .entry)) ⌝ }
+        ≡ written count (updated parameters (itemsIn (reading (now (file .entry)))) (x .features) (z .features) amount (now (gradient .entry)))
+        (now (gradient .entry)) ⌝ }
 {
+    let xs = x.features;
+    let zs = z.features;
     let mut k = 0;
     while k < count {
         let item = fetch(file, order, k);
+        let features = item.features;
         gradient[k] = shift(
             gradient[k],
             amount,
-            kernel_value(parameters, z, item),
-            kernel_value(parameters, x, item),
+            kernel_of_features(parameters, &zs, &features),
+            kernel_of_features(parameters, &xs, &features),
         );
         k += 1;
     }

@@ -95,9 +95,10 @@ impl Label {
     }
 }
 
+// The features come first, so that a copy of an item moves all sixteen as one block and what is read of them next need not wait for two.
 pub struct Item {
-    pub label: Label,
     pub features: [i8; Item::FEATURES],
+    pub label: Label,
 }
 
 impl Item {

@@ -25,7 +25,7 @@ roomBetween p x a z b = min (fall x a (ceilingOf p x)) (rise z b (ceilingOf p z)
 
 -- the amount of a pair's move, from the two items, their multipliers and g
 abbrev pub amountBetween : Parameters → Item → ℕ → Item → ℕ → ℤ → ℕ
-amountBetween p x a z b g = divided (natAbs g) (natAbs (curvatureBetween p x z)) (roomBetween p (x .label) a (z .label) b)
+amountBetween p x a z b g = divided (natAbs g) (natAbs (curvatureBetween p (x .features) (z .features))) (roomBetween p (x .label) a (z .label) b)
 
 -- two items whose multipliers are a and b, and whose g is known: neither multiplier is above its ceiling, and neither g nor η negative
 pub record PairGiven (p : Parameters) (x : Item) (a : ℕ) (z : Item) (b : ℕ) (g : ℤ) : Type 0 where
@@ -34,4 +34,4 @@ pub record PairGiven (p : Parameters) (x : Item) (a : ℕ) (z : Item) (b : ℕ) 
   pub z-within : b ≤ ceilingOf p (z .label)
   pub slope-nonneg : pos 0 ≤ℤ g
   pub slope-size : natAbs g ≤ 2 * gradientMost
-  pub curvature-nonneg : pos 0 ≤ℤ curvatureBetween p x z
+  pub curvature-nonneg : pos 0 ≤ℤ curvatureBetween p (x .features) (z .features)

@@ -1,13 +1,17 @@
 -- What the contracts on choosing the working pair cite: what testing a pair is about, the partner of a place, and the
--- answers as the code's enums. Assumes nothing.
+-- answers as the code's enums. Laws are in Pair/Laws.antt. Assumes nothing.
+pub mod Laws
 use mathlib.Core.Path.{_≡_}
 use mathlib.Core.Bool.{Bool, _&&_}
 use mathlib.Core.List.{List}
 use mathlib.Core.Option.{Option, none, some}
-use Prim.Native.Nat.{ℕ, _<_}
+use Prim.Native.Nat.{ℕ, _≤_, _<_}
 use lib.IntN.{ℤ}
+use lib.ListN.{length}
 use Rattle.integers.specs.Extremum.{first}
 use Rattle.training_file.specs.declared.parameters.Parameters.{Parameters}
+use Rattle.reading.specs.Reading.{reading}
+use Rattle.reading.specs.Calls.{itemIn, itemsIn}
 use Rattle.dual_problem.specs.Problem.{Problem, up}
 use Rattle.dual_problem.specs.Items.{at, problemOf}
 use Rattle.working_pair.specs.declared.pair.Pair.{Pair}
@@ -26,6 +30,12 @@ pub record PairState (file order : List ℕ) (n : ℕ) (p : Parameters) (a : Lis
 
 abbrev pub SomePairState : List ℕ → List ℕ → Parameters → List ℤ → ℕ → ℕ → Type 0
 SomePairState file order p g i j = (n : ℕ) × (a : List ℕ) × PairState file order n p a g i j
+
+-- what a search holds of the item at i while j runs: its features and K_ii
+pub record Held (file : List ℕ) (p : Parameters) (i : ℕ) (xs : List ℤ) (k : ℤ) : Type 0 where
+  pub features : xs ≡ itemIn (itemsIn (reading file)) i .features
+  pub long : p .used ≤ length xs
+  pub kernel : k ≡ problemOf file p .kernel i i
 
 abbrev pub TellsMoves : List ℕ → List ℕ → Parameters → List ℤ → ℕ → ℕ → Bool → Type 0
 TellsMoves file order p g i j answer = (n : ℕ) (a : List ℕ) → PairState file order n p a g i j → answer ≡ moves (problemOf file p) a i j

@@ -3,13 +3,13 @@
 
 ghost use mathlib.Core.Path.{_≡_};
 ghost use Prim.Native.Nat.{_<_};
-ghost use Rattle.dual_problem.specs.Problem.{up, low};
 ghost use Rattle.dual_problem.specs.Items.{problemOf};
 ghost use Rattle.thresholds.specs.Extremes.{extremesIn};
 ghost use Rattle.working_pair.specs.Step.{firstCandidate, workingPair};
 ghost use Rattle.working_pair.specs.State.{State};
-ghost use Rattle.working_pair.specs.Pair.{SomePairState, TellsMoves, firstPartner, pairOf, partnerOf};
-use super::curvature::curvature;
+ghost use Rattle.working_pair.specs.Pair.{Held, SomePairState, TellsMoves, firstPartner, pairOf, partnerOf};
+use super::curvature::curvature_with;
+use dual_problem::kernel::kernel_of_features;
 use reading::reader::fetch;
 use thresholds::extremes::Best;
 use thresholds::extremes::Extremes;
@@ -28,7 +28,33 @@ enum Partner {
     At(usize),
 }
 
-// Whether the pair of i and j moves. No square is negative, so a pair with G_i ≤ G_j does not, and its items need not be fetched.
+// Whether the pair of i and j moves, with the features of item i and K_ii at hand. No square is negative, so a pair with G_i ≤ G_j does
+// not, and item j need not be fetched.
+fn moves_with(
+    file: &[u8],
+    order: &[u16],
+    parameters: Parameters,
+    gradient: &[i64],
+    i: usize,
+    xs: &[i8],
+    kernel_ii: i64,
+    j: usize,
+) -> bool
+    requires state { ⌜ SomePairState (now file) (now order) parameters (now gradient) i j ⌝ }
+    requires held { ⌜ Held (now file) parameters i (now xs) «kernel_ii» ⌝ }
+    ensures { λ r. ⌜ TellsMoves (now (file .entry)) (now (order .entry)) parameters (now (gradient .entry)) i j r ⌝ }
+{
+    let gradient_i = gradient[i];
+    let gradient_j = gradient[j];
+    if gradient_i <= gradient_j {
+        return false;
+    }
+    let z = fetch(file, order, j);
+    let zs = z.features;
+    curvature_with(parameters, kernel_ii, xs, &zs) < 2 * (gradient_i - gradient_j)
+}
+
+// Whether the pair of i and j moves.
 fn pair_moves(
     file: &[u8],
     order: &[u16],
@@ -40,17 +66,13 @@ fn pair_moves(
     requires { ⌜ SomePairState (now file) (now order) parameters (now gradient) i j ⌝ }
     ensures { λ r. ⌜ TellsMoves (now (file .entry)) (now (order .entry)) parameters (now (gradient .entry)) i j r ⌝ }
 {
-    let gradient_i = gradient[i];
-    let gradient_j = gradient[j];
-    if gradient_i <= gradient_j {
-        return false;
-    }
     let x = fetch(file, order, i);
-    let z = fetch(file, order, j);
-    curvature(parameters, x, z) < 2 * (gradient_i - gradient_j)
+    let xs = x.features;
+    let kernel_ii = kernel_of_features(parameters, &xs, &xs);
+    moves_with(file, order, parameters, gradient, i, &xs, kernel_ii, j)
 }
 
-// The first j of the up set with which i moves.
+// The first j of the up set with which i moves. Item i is fetched, and K_ii worked out, once for all j.
 fn first_partner(
     file: &[u8],
     order: &[u16],
@@ -63,11 +85,14 @@ fn first_partner(
     requires { ⌜ State (now file) (now order) count parameters (now multipliers) (now gradient) × (i < count) ⌝ }
     ensures { λ r. ⌜ r ≡ partnerOf (firstPartner (problemOf (now (file .entry)) parameters) (now (multipliers .entry)) i) ⌝ }
 {
+    let x = fetch(file, order, i);
+    let xs = x.features;
+    let kernel_ii = kernel_of_features(parameters, &xs, &xs);
     let mut j = 0;
     while j < count {
         let sets = sets_at(file, order, parameters, multipliers, j);
         if sets.up {
-            if pair_moves(file, order, parameters, gradient, i, j) {
+            if moves_with(file, order, parameters, gradient, i, &xs, kernel_ii, j) {
                 return Partner::At(j);
             }
         }

@@ -122,7 +122,8 @@ static void set_gradient(Problem *p) {
 }
 
 static int64_t eta(const Problem *p, int i, int j) {
-    return kernel(p, p->x[i], p->x[i]) + kernel(p, p->x[j], p->x[j]) - (WRONG(50) ? 1 : 2) * kernel(p, p->x[i], p->x[j]);
+    const int8_t *x = p->x[WRONG(115) && i > 0 ? i - 1 : i], *z = p->x[WRONG(114) ? i : j];
+    return kernel(p, x, x) + kernel(p, z, z) - (WRONG(50) ? 1 : 2) * kernel(p, p->x[i], p->x[j]);
 }
 
 static int moves(const Problem *p, int i, int j) {

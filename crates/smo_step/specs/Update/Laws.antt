@@ -116,10 +116,10 @@ module _ {file order : List ℕ} {n : ℕ} {p : Parameters} {a : List ℕ} {g : 
   pub step-amount : divided (natAbs (slope P a i j)) (natAbs (curvature P i j)) (room P a i j) ≡ amount P a i j
   step-amount = sym (amount-divided P gram a long i j (pair .i-within) (pair .j-within) (pair .is-candidate))
 
-  pub step-gradient : written n (updated p items (itemIn items i) (itemIn items j) (amount P a i j) g) g ≡ written n (gradient P (at (stepped P a i j))) g
-  step-gradient = written-cong n (updated p items (itemIn items i) (itemIn items j) (amount P a i j) g) (gradient P (at (stepped P a i j))) g at-place
+  pub step-gradient : written n (updated p items (itemIn items i .features) (itemIn items j .features) (amount P a i j) g) g ≡ written n (gradient P (at (stepped P a i j))) g
+  step-gradient = written-cong n (updated p items (itemIn items i .features) (itemIn items j .features) (amount P a i j) g) (gradient P (at (stepped P a i j))) g at-place
     where
-      at-place : (k : ℕ) → k < n → updated p items (itemIn items i) (itemIn items j) (amount P a i j) g k ≡ gradient P (at (stepped P a i j)) k
+      at-place : (k : ℕ) → k < n → updated p items (itemIn items i .features) (itemIn items j .features) (amount P a i j) g k ≡ gradient P (at (stepped P a i j)) k
       at-place k l =
           (λ t. state .kept k l t +ℤ pos (amount P a i j) *ℤ (P .kernel j k -ℤ P .kernel i k))
           ∙ sym (moved-gradient P a i j (pair .i-within) (pair .j-within) apart long (amount P a i j) in-room gram k (omega (arith, all-items)))

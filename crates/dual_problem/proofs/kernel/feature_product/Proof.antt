@@ -8,17 +8,18 @@ use native.Mathlib.Omega.{arith}
 use borrow.Author.Needs.{needs}
 use lib.IntN.{ℤ, pos, natAbs, _+ℤ_, _*ℤ_}
 use lib.ListN.{getD}
-use mir.Syntax.{w8, w64}
+use mir.Syntax.{w8, w32, w64}
 use mir.Val.{toZ, ofZ}
 use Rattle.integers.specs.Bounds.{+ℤ-bound, fits-width, reads-back, reads-as, reads-element}
 use Rattle.integers.specs.Sum.{sum}
 use Rattle.training_file.specs.Layout.{signedMost}
+use Rattle.dual_problem.specs.Size.{linearMost}
 use Rattle.dual_problem.specs.Kernel.{linear}
 use Rattle.dual_problem.proofs.kernel.feature_product.Statement.{statement}
 use Rattle.dual_problem.proofs.kernel.feature_product.Tie as tie
 
 abbrev Inv-loop : tie.InvT-loop
-Inv-loop used xs zs sum₀ p₀ sum p = (p ≤ used) × (sum ≡ ofZ w64 (linear p xs zs)) × (natAbs (linear p xs zs) ≤ p * (signedMost * signedMost))
+Inv-loop used xs zs sum₀ p₀ sum p = (p ≤ used) × (sum ≡ ofZ w32 (linear p xs zs)) × (natAbs (linear p xs zs) ≤ p * (signedMost * signedMost))
 
 abbrev μ-loop : tie.MeasureT-loop
 μ-loop used xs zs sum₀ p₀ sum p = used - p
@@ -27,21 +28,21 @@ loop-holds : tie.Need-loop-holds Inv-loop μ-loop
 unfolding sum
 loop-holds c = (omega arith, refl, omega arith)
 
-array-copy-out-product : tie.Need-array-copy-out-product Inv-loop μ-loop
-array-copy-out-product c = omega arith
+shared-slice-copy-out-product : tie.Need-shared-slice-copy-out-product Inv-loop μ-loop
+shared-slice-copy-out-product c = omega arith
 
-array-copy-out-product-2 : tie.Need-array-copy-out-product-2 Inv-loop μ-loop
-array-copy-out-product-2 c = omega arith
+shared-slice-copy-out-product-2 : tie.Need-shared-slice-copy-out-product-2 Inv-loop μ-loop
+shared-slice-copy-out-product-2 c = omega arith
 
 product-requires : tie.Need-product-requires Inv-loop μ-loop
 product-requires c κs = search needs
 
 module _ (c : tie.After-product Inv-loop μ-loop) where
   xs : List ℤ
-  xs = c .before .before .before .before .before .before .before .args .x .features
+  xs = c .before .before .before .before .before .args .xs .now
 
   zs : List ℤ
-  zs = c .before .before .before .before .before .before .before .args .z .features
+  zs = c .before .before .before .before .before .args .zs .now
 
   p : ℕ
   p = c .before .before .before .before .loop .p
@@ -63,16 +64,16 @@ module _ (c : tie.After-product Inv-loop μ-loop) where
   unfolding xs zs p sum
   next-size = rw add-one (omega (arith, +ℤ-bound (linear p xs zs) (getD xs p (pos 0) *ℤ getD zs p (pos 0)) so-far-size place-size))
 
-  next-is : toZ w64 (c .before .before .before .before .loop .sum) +ℤ toZ w64 (ofZ w64 (c .product .result)) ≡ linear (p + 1) xs zs
+  next-is : toZ w32 (c .before .before .before .before .loop .sum) +ℤ toZ w32 (ofZ w32 (c .product .result)) ≡ linear (p + 1) xs zs
   unfolding xs zs p sum
   next-is =
       rw add-one
-      (λ i. reads-as w64 (linear p xs zs) (c .before .before .before .before .loop .inv .1) (omega (arith, so-far-size)) i
-      +ℤ reads-back w64 place-is (omega (arith, place-size)) i)
+      (λ i. reads-as w32 (linear p xs zs) (c .before .before .before .before .loop .inv .1) (omega (arith, so-far-size)) i
+      +ℤ reads-back w32 place-is (omega (arith, place-size)) i)
 
 add-sum : tie.Need-add-sum Inv-loop μ-loop
 unfolding p
-add-sum c = fits-width w64 (next-is c) (omega (arith, next-size c))
+add-sum c = fits-width w32 (next-is c) (omega (arith, next-size c))
 
 add-p : tie.Need-add-p Inv-loop μ-loop
 add-p c = omega arith
@@ -82,15 +83,31 @@ loop-less c = omega arith
 
 loop-again : tie.Need-loop-again Inv-loop μ-loop
 unfolding xs zs p
-loop-again c = (omega arith, ap (ofZ w64) (next-is c), next-size c)
+loop-again c = (omega arith, ap (ofZ w32) (next-is c), next-size c)
+
+-- the sum over all the features in use, as it was read at 32 bits
+module _ (c : tie.After-loop Inv-loop μ-loop) where
+  all : ℤ
+  all = linear (c .before .before .args .used) (c .before .before .args .xs .now) (c .before .before .args .zs .now)
+
+  all-size : natAbs all ≤ linearMost
+  unfolding all
+  all-size = let q : c .before .loop .p ≡ c .before .before .args .used = omega arith in omega (arith, subst (λ k. natAbs (linear k (c .before .before .args .xs .now) (c .before .before .args .zs .now)) ≤ k * (signedMost * signedMost)) q (c .before .loop .inv .2), c .before .before .pre .0)
+
+  all-is : toZ w32 (c .before .loop .sum) ≡ all
+  unfolding all
+  all-is =
+      let q : c .before .loop .p ≡ c .before .before .args .used = omega arith in
+      reads-as w32 all (c .before .loop .inv .1 ∙ ap (λ k. ofZ w32 (linear k (c .before .before .args .xs .now) (c .before .before .args .zs .now))) q) (omega (arith, all-size))
+
+cast-result : tie.Need-cast-result Inv-loop μ-loop
+cast-result c = fits-width w64 (all-is c) (omega (arith, all-size c))
 
 returns : tie.Need-returns Inv-loop μ-loop
+unfolding all
 returns c =
-    let a = c .before .before .before .before .args in
-    let h : natAbs (linear (c .before .loop .p) (a .x .features) (a .z .features)) ≤ 16 * (signedMost * signedMost) = omega (arith, c .before .loop .inv .2) in
-    let e : toZ w64 (c .before .loop .sum) ≡ linear (c .before .loop .p) (a .x .features) (a .z .features) = reads-as w64 (linear (c .before .loop .p) (a .x .features) (a .z .features)) (c .before .loop .inv .1) (omega arith) in
-    let q : c .before .loop .p ≡ a .used = omega arith in
-    (e ∙ ap (λ k. linear k (a .x .features) (a .z .features)) q, subst (λ z. natAbs z ≤ 16 * (signedMost * signedMost)) (sym e) h)
+    let e = reads-back w64 (all-is c) (omega (arith, all-size c)) in
+    (e, subst (λ z. natAbs z ≤ linearMost) (sym e) (all-size c))
 
 pub feature-product-spec : {M : Type 1} → statement M
 feature-product-spec =
@@ -99,11 +116,12 @@ feature-product-spec =
     Inv-loop
     μ-loop
     loop-holds
-    array-copy-out-product
-    array-copy-out-product-2
+    shared-slice-copy-out-product
+    shared-slice-copy-out-product-2
     product-requires
     add-sum
     add-p
     loop-less
     loop-again
+    cast-result
     returns)

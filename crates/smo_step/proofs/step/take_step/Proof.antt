@@ -113,7 +113,7 @@ amount-is c =
     let j = s .args .j in
     let p = s .args .parameters in
     c .pair-amount .ensures
-    ∙ (λ t. divided (natAbs (g-reads s t)) (natAbs (curvatureBetween p (x-is (c .before) t) (z-is (c .before) t))) (min (fall (x-is (c .before) t .label) (at (a s) i) (ceilingOf p (x-is (c .before) t .label))) (rise (z-is (c .before) t .label) (at (a s) j) (ceilingOf p (z-is (c .before) t .label)))))
+    ∙ (λ t. divided (natAbs (g-reads s t)) (natAbs (curvatureBetween p (x-is (c .before) t .features) (z-is (c .before) t .features))) (min (fall (x-is (c .before) t .label) (at (a s) i) (ceilingOf p (x-is (c .before) t .label))) (rise (z-is (c .before) t .label) (at (a s) j) (ceilingOf p (z-is (c .before) t .label)))))
     ∙ step-amount (s .pre .0) (s .pre .1) (s .pre .2)
 
 move-pair-requires : tie.Need-move-pair-requires
@@ -148,7 +148,7 @@ returns c =
       c .before .before .before .before .before .move-pair .ensures
           ∙ (λ t. set (set (a s) i (lowered (x-is (d .before) t .label) (at (a s) i) (amount-is d t))) j (raised (z-is (d .before) t .label) (at (a s) j) (amount-is d t))),
       c .before .update-gradient .ensures
-          ∙ (λ t. written (s .args .count) (updated (s .args .parameters) (items s) (x-is (d .before) t) (z-is (d .before) t) (amount-is d t) (g s)) (g s))
+          ∙ (λ t. written (s .args .count) (updated (s .args .parameters) (items s) (x-is (d .before) t .features) (z-is (d .before) t .features) (amount-is d t) (g s)) (g s))
           ∙ step-gradient (s .pre .0) (s .pre .1) (s .pre .2),
     )
 

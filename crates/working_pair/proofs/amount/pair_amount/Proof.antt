@@ -28,11 +28,11 @@ module _ (c : tie.After-room) where
   g-reads : toZ w64 (ofZ w64 (s .args .slope)) ≡ s .args .slope
   g-reads = reads-back w64 refl (omega (arith, s .pre .slope-size))
 
-  η-size : natAbs (curvatureBetween (s .args .parameters) (s .args .x) (s .args .z)) ≤ curvatureMost
+  η-size : natAbs (curvatureBetween (s .args .parameters) (s .args .x .features) (s .args .z .features)) ≤ curvatureMost
   unfolding s
   η-size = subst (λ z. natAbs z ≤ curvatureMost) (c .before .curvature .ensures .0) (c .before .curvature .ensures .1)
 
-  η-reads : toZ w64 (ofZ w64 (c .before .curvature .result)) ≡ curvatureBetween (s .args .parameters) (s .args .x) (s .args .z)
+  η-reads : toZ w64 (ofZ w64 (c .before .curvature .result)) ≡ curvatureBetween (s .args .parameters) (s .args .x .features) (s .args .z .features)
   unfolding s
   η-reads = reads-back w64 (c .before .curvature .ensures .0) (omega (arith, η-size))
 

@@ -1,119 +1,43 @@
--- `working_pair::pair::pair_moves` meets its contract. G is at most `gradientMost` in size, so twice a difference fits. Assumes nothing.
-use mathlib.Core.Path.{_≡_, refl, sym, _∙_, ap}
-use mathlib.Core.Bool.{true, false}
-use mathlib.Core.List.{List}
-use Prim.Native.Nat.{ℕ, _+_, _*_, _≤_, _<_}
-use native.Mathlib.Nat.{le-refl}
+-- `working_pair::pair::pair_moves` meets its contract. Assumes nothing.
 use native.Mathlib.Omega.{arith}
 use borrow.Author.Needs.{needs}
-use lib.IntN.{ℤ, pos, natAbs, _-ℤ_, _*ℤ_}
-use lib.ListN.{getD}
-use lib.Signed.{leZ, ltZ}
-use mir.Syntax.{w64}
-use mir.Val.{toZ, ofZ}
-use Rattle.integers.specs.Bounds.{*ℤ-bound, -ℤ-bound, fits-width, reads-back}
-use Rattle.integers.specs.Order.{leZ-true}
-use Rattle.training_file.specs.declared.parameters.Parameters.{Parameters}
-use Rattle.reading.specs.Reading.{reading}
-use Rattle.reading.specs.Calls.{itemsIn}
-use Rattle.dual_problem.specs.Size.{gradientMost}
-use Rattle.dual_problem.specs.Problem.{Problem, gradient}
-use Rattle.dual_problem.specs.Problem.Laws.{problem-gram}
-use Rattle.dual_problem.specs.Items.{at, problemOf}
-use Rattle.dual_problem.specs.Items.Laws.{gradient-size}
-use Rattle.working_pair.specs.Step.{slope, moves}
-use Rattle.working_pair.specs.Step.Laws.{moves-needs-slope}
-use Rattle.working_pair.specs.Curvature.{curvatureBetween}
-use Rattle.working_pair.specs.Pair.{PairState}
+use Rattle.working_pair.specs.Pair.Laws.{held-fetched}
 use Rattle.working_pair.proofs.pair.pair_moves.Statement.{statement}
 use Rattle.working_pair.proofs.pair.pair_moves.Tie as tie
 
-mul-gradient-i : tie.Need-mul-gradient-i
-mul-gradient-i c = search needs
+fetch-requires : tie.Need-fetch-requires
+fetch-requires c κs = let h = c .before .before .pre .2 in h .state .listed .table .tabled _ (h .i-within)
 
-shared-slice-copy-out-gradient-i : tie.Need-shared-slice-copy-out-gradient-i
-shared-slice-copy-out-gradient-i c = search needs
+slice-aggregate-kernel-of-features : tie.Need-slice-aggregate-kernel-of-features
+slice-aggregate-kernel-of-features c = search needs
 
-mul-gradient-j : tie.Need-mul-gradient-j
-mul-gradient-j c = search needs
+slice-aggregate-kernel-of-features-2 : tie.Need-slice-aggregate-kernel-of-features-2
+slice-aggregate-kernel-of-features-2 c = search needs
 
-shared-slice-copy-out-gradient-j : tie.Need-shared-slice-copy-out-gradient-j
-shared-slice-copy-out-gradient-j c = search needs
+kernel-of-features-requires : tie.Need-kernel-of-features-requires
+kernel-of-features-requires c κs =
+    let used = c .before .before .before .before .before .before .pre .2 .state .listed .used in
+    (used, omega (arith, used, slice-aggregate-kernel-of-features (c .before)), omega (arith, used, slice-aggregate-kernel-of-features-2 c))
 
--- G of both places as it was read, their difference, and twice that
-module _ {file order : List ℕ} {n : ℕ} {p : Parameters} {a : List ℕ} {g : List ℤ} {i j : ℕ} (h : PairState file order n p a g i j) where
-  abbrev P : Problem
-  P = problemOf file p
+slice-aggregate-moves-with : tie.Need-slice-aggregate-moves-with
+slice-aggregate-moves-with c = search needs
 
-  size : (k : ℕ) → k < n → natAbs (gradient P (at a) k) ≤ gradientMost
-  size = gradient-size file order n p a (h .state .listed)
-
-  read-is : (k : ℕ) → k < n → toZ w64 (ofZ w64 (getD g k (pos 0))) ≡ gradient P (at a) k
-  read-is k l = reads-back w64 (h .state .kept k l) (omega (arith, size k l))
-
-  difference-is : toZ w64 (ofZ w64 (getD g i (pos 0))) -ℤ toZ w64 (ofZ w64 (getD g j (pos 0))) ≡ slope P a i j
-  difference-is = λ d. read-is i (h .i-within) d -ℤ read-is j (h .j-within) d
-
-  difference-size : natAbs (slope P a i j) ≤ gradientMost + gradientMost
-  difference-size = -ℤ-bound (gradient P (at a) i) (gradient P (at a) j) (size i (h .i-within)) (size j (h .j-within))
-
-  twice-is : pos 2 *ℤ toZ w64 (ofZ w64 (toZ w64 (ofZ w64 (getD g i (pos 0))) -ℤ toZ w64 (ofZ w64 (getD g j (pos 0))))) ≡ pos 2 *ℤ slope P a i j
-  twice-is = ap (λ z. pos 2 *ℤ z) (reads-back w64 difference-is (omega (arith, difference-size)))
-
-  twice-size : natAbs (pos 2 *ℤ slope P a i j) ≤ 2 * (gradientMost + gradientMost)
-  twice-size = *ℤ-bound (pos 2) (slope P a i j) (le-refl 2) difference-size
-
-  -- where G_i ≤ G_j the pair does not move
-  flat : leZ (toZ w64 (ofZ w64 (getD g i (pos 0)))) (toZ w64 (ofZ w64 (getD g j (pos 0)))) ≡ true → moves P a i j ≡ false
-  flat t =
-      let i-within : i < P .count = omega (arith, h .i-within, h .state .listed .table .counted) in
-      let j-within : j < P .count = omega (arith, h .j-within, h .state .listed .table .counted) in
-      moves-needs-slope P (problem-gram p (itemsIn (reading file))) a i j i-within j-within
-      (leZ-true (gradient P (at a) i) (gradient P (at a) j) (sym (λ d. leZ (read-is i (h .i-within) d) (read-is j (h .j-within) d)) ∙ t))
+moves-with-requires : tie.Need-moves-with-requires
+moves-with-requires c κs =
+    let s = c .before .before .before .before .before .before .before .before in
+    (s .pre, held-fetched (c .before .before .before .before .before .fetch .ensures) (omega (arith, s .pre .2 .state .listed .used, slice-aggregate-moves-with c)) (c .before .kernel-of-features .ensures))
 
 returns : tie.Need-returns
-returns c n a h = sym (flat h (c .if1 .taken))
-
-fetch-requires : tie.Need-fetch-requires
-fetch-requires c κs = let p = c .before .before .before .before .before .pre .2 in p .state .listed .table .tabled _ (p .i-within)
-
-fetch-requires-2 : tie.Need-fetch-requires-2
-fetch-requires-2 c κs = let p = c .before .before .before .before .before .before .pre .2 in p .state .listed .table .tabled _ (p .j-within)
-
-curvature-requires : tie.Need-curvature-requires
-curvature-requires c κs = c .before .before .before .before .before .before .before .pre .2 .state .listed .used
-
-sub-result : tie.Need-sub-result
-sub-result c =
-    let h = c .before .before .before .before .before .before .before .before .pre .2 in
-    fits-width w64 (difference-is h) (omega (arith, difference-size h))
-
-mul-result : tie.Need-mul-result
-mul-result c =
-    let h = c .before .before .before .before .before .before .before .before .pre .2 in
-    fits-width w64 (twice-is h) (omega (arith, twice-size h))
-
-returns-2 : tie.Need-returns-2
-returns-2 c n a h =
-    let p = c .before .before .before .before .before .before .before .before .args .parameters in
-    let x = c .before .before .fetch .ensures in
-    let z = c .before .fetch2 .ensures in
-    let η = c .curvature .ensures in
-    let e = reads-back w64 refl (omega (arith, η .1)) ∙ η .0 ∙ (λ d. curvatureBetween p (x d) (z d)) in
-    λ d. ltZ (e d) (reads-back w64 (twice-is h) (omega (arith, twice-size h)) d)
+returns c = search needs
 
 pub pair-moves-spec : {M : Type 1} → statement M
 pair-moves-spec =
     tie.close
     (tie.spec
-    mul-gradient-i
-    shared-slice-copy-out-gradient-i
-    mul-gradient-j
-    shared-slice-copy-out-gradient-j
-    returns
     fetch-requires
-    fetch-requires-2
-    curvature-requires
-    sub-result
-    mul-result
-    returns-2)
+    slice-aggregate-kernel-of-features
+    slice-aggregate-kernel-of-features-2
+    kernel-of-features-requires
+    slice-aggregate-moves-with
+    moves-with-requires
+    returns)
