@@ -1,4 +1,4 @@
--- η of two items by value, for the contracts. Assumes nothing.
+-- η of two items by their features, for the contracts. Assumes nothing.
 use mathlib.Core.Path.{_≡_}
 use mathlib.Core.List.{List}
 use Prim.Native.Nat.{_≤_}

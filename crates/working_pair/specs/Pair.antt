@@ -31,14 +31,14 @@ pub record PairState (file order : List ℕ) (n : ℕ) (p : Parameters) (a : Lis
 abbrev pub SomePairState : List ℕ → List ℕ → Parameters → List ℤ → ℕ → ℕ → Type 0
 SomePairState file order p g i j = (n : ℕ) × (a : List ℕ) × PairState file order n p a g i j
 
+abbrev pub TellsMoves : List ℕ → List ℕ → Parameters → List ℤ → ℕ → ℕ → Bool → Type 0
+TellsMoves file order p g i j answer = (n : ℕ) (a : List ℕ) → PairState file order n p a g i j → answer ≡ moves (problemOf file p) a i j
+
 -- what a search holds of the item at i while j runs: its features and K_ii
 pub record Held (file : List ℕ) (p : Parameters) (i : ℕ) (xs : List ℤ) (k : ℤ) : Type 0 where
   pub features : xs ≡ itemIn (itemsIn (reading file)) i .features
   pub long : p .used ≤ length xs
   pub kernel : k ≡ problemOf file p .kernel i i
-
-abbrev pub TellsMoves : List ℕ → List ℕ → Parameters → List ℤ → ℕ → ℕ → Bool → Type 0
-TellsMoves file order p g i j answer = (n : ℕ) (a : List ℕ) → PairState file order n p a g i j → answer ≡ moves (problemOf file p) a i j
 
 -- the first j of the up set with which i moves: for an i of the low set, that of the first candidate with i
 abbrev pub firstPartner : Problem → List ℕ → ℕ → Option ℕ
