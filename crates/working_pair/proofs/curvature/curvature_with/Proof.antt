@@ -1,5 +1,5 @@
 -- `working_pair::curvature::curvature_with` meets its contract. Assumes nothing.
-use mathlib.Core.Path.{_≡_, sym, subst}
+use mathlib.Core.Path.{_≡_, sym, _∙_, subst}
 use Prim.Native.Nat.{_*_, _≤_}
 use native.Mathlib.Nat.{le-refl}
 use native.Mathlib.Omega.{arith}
@@ -9,6 +9,7 @@ use mir.Syntax.{w64}
 use mir.Val.{toZ, ofZ}
 use Rattle.integers.specs.Bounds.{+ℤ-bound, -ℤ-bound, *ℤ-bound, fits-width, reads-back}
 use Rattle.dual_problem.specs.Size.{curvatureMost, kernelMost}
+use Rattle.dual_problem.specs.Kernel.Laws.{kernel-reads}
 use Rattle.working_pair.specs.Curvature.{curvatureBetween, kernelBetween}
 use Rattle.working_pair.proofs.curvature.curvature_with.Statement.{statement}
 use Rattle.working_pair.proofs.curvature.curvature_with.Tie as tie
@@ -18,8 +19,8 @@ module _ {r k : ℤ} (is : r ≡ k) (size : natAbs r ≤ kernelMost) where
   kernel-size : natAbs k ≤ kernelMost
   kernel-size = subst (λ z. natAbs z ≤ kernelMost) is size
 
-  kernel-reads : toZ w64 (ofZ w64 r) ≡ k
-  kernel-reads = reads-back w64 is (omega (arith, kernel-size))
+  reads : toZ w64 (ofZ w64 r) ≡ k
+  reads = kernel-reads r size ∙ is
 
 kernel-of-features-requires : tie.Need-kernel-of-features-requires
 kernel-of-features-requires c κs = search needs
@@ -37,7 +38,7 @@ module _ (c : tie.After-kernel-of-features) where
 
   both-is : toZ w64 (ofZ w64 (c .before .args .kernel-xx)) +ℤ toZ w64 (ofZ w64 (c .kernel-of-features .result)) ≡ kxx +ℤ kzz
   unfolding kxx kzz
-  both-is = λ i. kernel-reads (c .before .pre .kernel) (c .before .pre .kernel-size) i +ℤ kernel-reads (c .kernel-of-features .ensures .0) (c .kernel-of-features .ensures .1) i
+  both-is = λ i. reads (c .before .pre .kernel) (c .before .pre .kernel-size) i +ℤ reads (c .kernel-of-features .ensures .0) (c .kernel-of-features .ensures .1) i
 
   both-size : natAbs (kxx +ℤ kzz) ≤ 2 * kernelMost
   unfolding kxx kzz
@@ -53,7 +54,7 @@ module _ (c : tie.After-kernel-of-features2) where
 
   twice-is : pos 2 *ℤ toZ w64 (ofZ w64 (c .kernel-of-features2 .result)) ≡ pos 2 *ℤ kxz
   unfolding kxz
-  twice-is = λ i. pos 2 *ℤ kernel-reads (c .kernel-of-features2 .ensures .0) (c .kernel-of-features2 .ensures .1) i
+  twice-is = λ i. pos 2 *ℤ reads (c .kernel-of-features2 .ensures .0) (c .kernel-of-features2 .ensures .1) i
 
   twice-size : natAbs (pos 2 *ℤ kxz) ≤ 2 * kernelMost
   unfolding kxz
