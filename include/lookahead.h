@@ -89,9 +89,21 @@
 #define LOOKAHEAD_STUCK 2
 #define LOOKAHEAD_SPENT 3
 
-/* The class of a word. */
+/* The class of a word, by its score: 2 * the sum over i of a[i] * y[i] * the
+ * kernel value of item i and the word, minus (lower + upper).
+ *
+ * LOOKED_UP    above 0
+ * PASSED_OVER  below 0
+ * UNDECIDED    exactly 0
+ *
+ * A fetch queue fetches an undecided word as it fetches one to be looked up:
+ * that is the queue's choice, and no call here makes it.
+ *
+ * With multipliers that are all 0, as a training of 0 steps leaves them, every
+ * word is undecided. */
 #define LOOKAHEAD_LOOKED_UP 1
 #define LOOKAHEAD_PASSED_OVER 2
+#define LOOKAHEAD_UNDECIDED 3
 
 #ifdef __cplusplus
 extern "C" {
@@ -163,7 +175,8 @@ uint8_t lookahead_certify(const uint8_t *file, size_t file_len,
  * Handed over: exactly n multipliers, as for certifying, and a word of exactly
  * as many features as the file has in use, which lookahead_read answers.
  *
- * After 0: *class_answer is LOOKAHEAD_LOOKED_UP or LOOKAHEAD_PASSED_OVER.
+ * After 0: *class_answer is LOOKAHEAD_LOOKED_UP, LOOKAHEAD_PASSED_OVER or
+ * LOOKAHEAD_UNDECIDED.
  *
  * Refusals: 1 to 9. *class_answer is then as it was. */
 uint8_t lookahead_classify(const uint8_t *file, size_t file_len,

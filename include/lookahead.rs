@@ -24,6 +24,7 @@ pub const LOOKAHEAD_SPENT: u8 = 3;
 
 pub const LOOKAHEAD_LOOKED_UP: u8 = 1;
 pub const LOOKAHEAD_PASSED_OVER: u8 = 2;
+pub const LOOKAHEAD_UNDECIDED: u8 = 3;
 
 extern "C" {
     pub fn lookahead_read(

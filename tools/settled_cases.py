@@ -1,5 +1,6 @@
-"""Writes document 01's settled examples P1 to P12 for crates/settled_test: what it is run on, and the results settled there. Three words
-follow that document 01 has run only: W1 to W3, with the highest feature, the lowest, and one below it.
+"""Writes document 01's settled examples P1 to P12 for crates/settled_test: what it is run on, and the results settled there, of P12's
+second half those of document 02, (e). E1 to E3 are our own examples of that request. Three words follow that document 01 has run only:
+W1 to W3, with the highest feature, the lowest, and one below it.
 
 Nothing is worked out here. What the document leaves out of a result, as the thresholds of P4, is as the theorem `settled` has it
 (crates/lookahead/specs/Settled.antt).
@@ -30,6 +31,7 @@ def plus_minus(**parameters):
 
 BOTH_ONE = file([(1, 1), (2, 1)], c=7)
 THREE = file([(1, 10), (2, -10), (2, 10)], S=1, c=2)
+UNEVEN = file([(1, 1), (2, 0)], S=1, c=10)
 
 # Name, kind, file, multipliers, feature; the result. Training is lent 9s, so that what it leaves alone shows.
 CASES = [
@@ -46,7 +48,10 @@ CASES = [
     ("P11", CERTIFY, plus_minus(), (5, 4, 0), 0, "refused 8"),
     ("P11", CERTIFY, plus_minus(), (101, 100, 0), 0, "refused 7"),
     ("P12", CLASSIFY, plus_minus(), (5, 5, 0), 3, "looked up"),
-    ("P12", CLASSIFY, plus_minus(), (5, 5, 0), 0, "passed over"),
+    ("P12", CLASSIFY, plus_minus(), (5, 5, 0), 0, "undecided"),
+    ("E1", CLASSIFY, plus_minus(), (0, 0, 0), 3, "undecided"),
+    ("E2", CLASSIFY, UNEVEN, (1, 1, 0), 0, "passed over"),
+    ("E3", CLASSIFY, UNEVEN, (1, 1, 0), 1, "looked up"),
     ("W1", CLASSIFY, plus_minus(), (5, 5, 0), 127, "looked up"),
     ("W2", CLASSIFY, plus_minus(), (5, 5, 0), -127, "passed over"),
     ("W3", CLASSIFY, plus_minus(), (5, 5, 0), -128, "refused 9"),

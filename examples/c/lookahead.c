@@ -1,6 +1,6 @@
 /* Reads a small file, trains on it, certifies the result and classifies words:
- * two plain ones, those with the highest and the lowest feature, and one with a
- * feature that none may have. */
+ * a plain one, one exactly on the line, those with the highest and the lowest
+ * feature, and one with a feature that none may have. */
 #include <inttypes.h>
 #include <stdbool.h>
 #include <stdio.h>
@@ -58,6 +58,17 @@ static const char *ending_name(uint8_t ending) {
     }
 }
 
+static const char *class_name(uint8_t class_answer) {
+    switch (class_answer) {
+    case LOOKAHEAD_LOOKED_UP:
+        return "looked up";
+    case LOOKAHEAD_PASSED_OVER:
+        return "passed over";
+    default:
+        return "undecided";
+    }
+}
+
 /* Whether reading refused nothing, so that there are items to train on. */
 static bool read_items(const uint8_t *file, Model *model) {
     size_t used;
@@ -112,8 +123,7 @@ static void classify(const uint8_t *file, const Model *model, int8_t feature) {
         printf("classify %d: refused with %d\n", feature, refusal);
         return;
     }
-    printf("classify %d: %s\n", feature,
-           class_answer == LOOKAHEAD_LOOKED_UP ? "looked up" : "passed over");
+    printf("classify %d: %s\n", feature, class_name(class_answer));
 }
 
 int main(void) {

@@ -1,6 +1,6 @@
 //! Reads a small file, trains on it, certifies the result and classifies words:
-//! two plain ones, those with the highest and the lowest feature, and one with a
-//! feature that none may have.
+//! a plain one, one exactly on the line, those with the highest and the lowest
+//! feature, and one with a feature that none may have.
 
 #[path = "../../include/lookahead.rs"]
 mod declared;
@@ -10,7 +10,8 @@ mod declared;
 mod lookahead {
     use super::declared::{
         lookahead_certify, lookahead_classify, lookahead_read, lookahead_train,
-        LOOKAHEAD_CONVERGED, LOOKAHEAD_LINEAR, LOOKAHEAD_LOOKED_UP, LOOKAHEAD_STUCK,
+        LOOKAHEAD_CONVERGED, LOOKAHEAD_LINEAR, LOOKAHEAD_LOOKED_UP, LOOKAHEAD_PASSED_OVER,
+        LOOKAHEAD_STUCK,
     };
 
     pub use super::declared::LOOKAHEAD_MOST_ITEMS as MOST_ITEMS;
@@ -51,6 +52,7 @@ mod lookahead {
     pub enum Class {
         LookedUp,
         PassedOver,
+        Undecided,
     }
 
     fn unless_refused<T>(number: u8, answer: T) -> Result<T, Refusal> {
@@ -160,7 +162,8 @@ mod lookahead {
         };
         let class = match class {
             LOOKAHEAD_LOOKED_UP => Class::LookedUp,
-            _ => Class::PassedOver,
+            LOOKAHEAD_PASSED_OVER => Class::PassedOver,
+            _ => Class::Undecided,
         };
         unless_refused(number, class)
     }
@@ -215,6 +218,7 @@ fn print_class(file: &[u8], multipliers: &[u32], feature: i8) {
     match lookahead::classify(file, multipliers, &[feature]) {
         Ok(Class::LookedUp) => println!("classify {feature}: looked up"),
         Ok(Class::PassedOver) => println!("classify {feature}: passed over"),
+        Ok(Class::Undecided) => println!("classify {feature}: undecided"),
         Err(Refusal(number)) => println!("classify {feature}: refused with {number}"),
     }
 }

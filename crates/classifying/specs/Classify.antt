@@ -1,14 +1,13 @@
--- Classifying a word by a training file and multipliers (document 01, "The step", its last paragraph, and refusals 6 to 9). Laws are in
--- Classify/Laws.antt. Assumes nothing.
+-- Classifying a word by a training file and multipliers (document 01, "The step", its last paragraph, and refusals 6 to 9; document 02,
+-- (e), for a score of 0). Laws are in Classify/Laws.antt. Assumes nothing.
 pub mod Laws
 use mathlib.Core.Path.{_≡_}
 use mathlib.Core.Bool.{Bool, cond}
 use mathlib.Core.List.{List}
-use Prim.Native.Nat.{ℕ, _≤_}
+use Prim.Native.Nat.{ℕ, zero, suc, _≤_}
 use lib.Dec.{eqb}
-use lib.IntN.{ℤ, pos, natAbs, _+ℤ_, _-ℤ_, _*ℤ_}
+use lib.IntN.{ℤ, pos, negsuc, natAbs, _+ℤ_, _-ℤ_, _*ℤ_}
 use lib.ListN.{length, getD}
-use lib.Signed.{ltZ}
 use Rattle.integers.specs.Places.{all}
 use Rattle.training_file.specs.declared.parameters.Parameters.{Parameters}
 use Rattle.training_file.specs.declared.item.Item.{Item}
@@ -27,7 +26,7 @@ use Rattle.certifying.specs.declared.certify.Thresholds.{Thresholds}
 use Rattle.certifying.specs.Multipliers.{judgement}
 use Rattle.certifying.specs.Certify.{thresholdsOf}
 use Rattle.classifying.specs.declared.classify.Class.{Class}
-use Rattle.classifying.specs.declared.classify.Class.the-variants.{LookedUp, PassedOver}
+use Rattle.classifying.specs.declared.classify.Class.the-variants.{LookedUp, PassedOver, Undecided}
 use Rattle.classifying.specs.declared.classify.Classified.{Classified}
 use Rattle.classifying.specs.declared.classify.Classified.the-variants.{Refused, Is}
 
@@ -44,9 +43,11 @@ scoreWith p items a thresholds word = pos 2 *ℤ weighedSum (problem p items) a 
 abbrev pub score : Parameters → List Item → (ℕ → ℕ) → List ℤ → ℤ
 score p items a word = scoreWith p items a (thresholdsOf (problem p items) a) word
 
--- "Above 0 the answer is looked up; otherwise passed over."
+-- the class of a score, by its three cases
 abbrev pub classOf : ℤ → Class
-classOf value = cond (ltZ (pos 0) value) LookedUp PassedOver
+classOf (pos (suc n)) = LookedUp  -- "Above 0 the answer is looked up"
+classOf (pos zero) = Undecided  -- "undecided, for a score of exactly 0"
+classOf (negsuc n) = PassedOver  -- "otherwise passed over"
 
 -- whether each feature of a word is in the range that an item's are
 abbrev pub wordAllowed : List ℤ → Bool

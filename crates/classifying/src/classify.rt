@@ -1,4 +1,4 @@
-// Classifying: whether a word is one to be looked up, by a training file and multipliers (document 01, "The step").
+// Classifying: whether a word is one to be looked up, by a training file and multipliers (document 01, "The step", and document 02, (e)).
 
 ghost use mathlib.Core.Path.{_≡_};
 ghost use Rattle.training_file.specs.Parameters.{Ranges};
@@ -19,10 +19,12 @@ use training_file::item::Item;
 use training_file::parameters::Parameters;
 use training_file::refusal::Refusal;
 
-// What classifying says of a word. A label is what the log says of one, so this is an enum of its own.
+// What classifying says of a word. A label is what the log says of one, so this is an enum of its own. What to do with an undecided word is
+// the caller's choice.
 pub enum Class {
     LookedUp,
     PassedOver,
+    Undecided,
 }
 
 impl Class {
@@ -31,6 +33,8 @@ impl Class {
     {
         if 0 < score {
             Class::LookedUp
+        } else if score == 0 {
+            Class::Undecided
         } else {
             Class::PassedOver
         }

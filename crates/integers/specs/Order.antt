@@ -1,7 +1,7 @@
 -- The order of ℤ: an order, total, kept by sums and by products with what isn't negative; squares; the tests `leZ` and `ltZ` of
 -- lib.Signed as facts; inequalities by a certificate. Assumes nothing.
 use mathlib.Core.Path.{_≡_, refl, sym, _∙_, subst}
-use mathlib.Core.Logic.{_⊎_, inl, inr, ⊎-elim}
+use mathlib.Core.Logic.{_≢_, _⊎_, inl, inr, ⊎-elim}
 use mathlib.Core.Bool.{Bool, true, false, not}
 use mathlib.Core.List.{List, [], _∷_}
 use Prim.Native.Nat.{ℕ, suc, _*_}
@@ -67,6 +67,9 @@ pub ≤ℤ-or-<ℤ : (a b : ℤ) → (a ≤ℤ b) ⊎ (b <ℤ a)
     go : (t : Bool) → ltZ b a ≡ t → (a ≤ℤ b) ⊎ (b <ℤ a)
     go true e = inr (ltZ-true b a e)
     go false e = inl (ltZ-false b a e)
+
+pub ≤ℤ-≢-<ℤ : {a b : ℤ} → a ≤ℤ b → a ≢ b → a <ℤ b
+≤ℤ-≢-<ℤ {a} {b} h k = ⊎-elim (λ l. absurd (k (≤ℤ-antisym h l))) (λ l. l) (≤ℤ-or-<ℤ b a)
 
 pub ≤ℤ-total : (a b : ℤ) → (a ≤ℤ b) ⊎ (b ≤ℤ a)
 ≤ℤ-total a b = ⊎-elim (λ h. inl h) (λ h. inr (<ℤ-to-≤ℤ h)) (≤ℤ-or-<ℤ a b)

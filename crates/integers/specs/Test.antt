@@ -42,6 +42,11 @@ pub &&-false-right : (s : Bool) {t : Bool} → t ≡ false → s && t ≡ false
 &&-false-right false h = refl
 
 -- ---- a choice
+-- what holds of both values holds of the one that was chosen
+pub chose-either : {A : Type 0} (Q : A → Type 0) (b : Bool) {x y : A} → Q x → Q y → Q (cond b x y)
+chose-either Q true p q = p
+chose-either Q false p q = q
+
 module _ {A : Type 0} {x y z : A} where
   -- it chose the first where it is not the second
   pub chose-first : (b : Bool) → (y ≡ z → ⊥) → cond b x y ≡ z → (b ≡ true) × (x ≡ z)

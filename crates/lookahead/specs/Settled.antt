@@ -1,5 +1,5 @@
 -- Document 01, "Settled examples": P1 to P12 as one table of inputs and results, and one theorem, by the definitions that the
--- contracts of the public calls cite. Assumes nothing.
+-- contracts of the public calls cite. E1 to E3 are our own, for request (e) of document 02. Assumes nothing.
 use mathlib.Core.Path.{_≡_, refl}
 use mathlib.Core.Bool.{Bool, false}
 use mathlib.Core.List.{List, [], _∷_, _++_}
@@ -31,7 +31,7 @@ use Rattle.smo.specs.declared.ending.Ending.the-variants.{Converged, Stuck, Spe
 use Rattle.smo.specs.Run.{next, run}
 use Rattle.training.specs.declared.train.Training.the-variants.{Ended}
 use Rattle.training.specs.Train.{TrainingLeft, trainFile}
-use Rattle.classifying.specs.declared.classify.Class.the-variants.{LookedUp, PassedOver}
+use Rattle.classifying.specs.declared.classify.Class.the-variants.{LookedUp, PassedOver, Undecided}
 use Rattle.classifying.specs.declared.classify.Classified.{Classified}
 use Rattle.classifying.specs.declared.classify.Classified.the-variants.{Is}
 use Rattle.classifying.specs.Classify.{classifying, score, scoreWith}
@@ -54,6 +54,10 @@ bothOne = header 2 0 10 7 0 50 ++ stored 2 1 1 ++ stored 0 2 1
 
 abbrev three : List ℕ
 three = header 3 0 1 2 0 50 ++ stored 2 1 10 ++ stored 3 2 246 ++ stored 0 2 10
+
+-- item + with feature 1, item − with feature 0: with multipliers 1 1 the thresholds are 1 and 0, and scores are odd
+abbrev uneven : List ℕ
+uneven = header 2 0 1 10 0 50 ++ stored 2 1 1 ++ stored 0 2 0
 
 -- ---- the cases
 pub data Case : Type 0 where
@@ -110,7 +114,10 @@ settledExamples =
     ∷ certifies (plusMinus 0 10 100 0 50) (5 ∷ 4 ∷ []) (certified.Refused (refusal 8))  -- P11
     ∷ certifies (plusMinus 0 10 100 0 50) (101 ∷ 100 ∷ []) (certified.Refused (refusal 7))
     ∷ classifies (plusMinus 0 10 100 0 50) (5 ∷ 5 ∷ []) (pos 3 ∷ []) (Is LookedUp) (pos 60)  -- P12
-    ∷ classifies (plusMinus 0 10 100 0 50) (5 ∷ 5 ∷ []) (pos 0 ∷ []) (Is PassedOver) (pos 0)
+    ∷ classifies (plusMinus 0 10 100 0 50) (5 ∷ 5 ∷ []) (pos 0 ∷ []) (Is Undecided) (pos 0)
+    ∷ classifies (plusMinus 0 10 100 0 50) (0 ∷ 0 ∷ []) (pos 3 ∷ []) (Is Undecided) (pos 0)  -- E1
+    ∷ classifies uneven (1 ∷ 1 ∷ []) (pos 0 ∷ []) (Is PassedOver) (negsuc 0)  -- E2
+    ∷ classifies uneven (1 ∷ 1 ∷ []) (pos 1 ∷ []) (Is LookedUp) (pos 1)  -- E3
     ∷ []
 
 pub settled : AllHold settledExamples
@@ -134,7 +141,7 @@ settled = (
                 (refl, refl),
                 (
                   refl,
-                  ((refl, refl), (refl, (refl, (refl, ((refl, refl), ((refl, refl), tt)))))),
+                  ((refl, refl), (refl, (refl, (refl, ((refl, refl), ((refl, refl), ((refl, refl), ((refl, refl), ((refl, refl), tt))))))))),
                 ),
               ),
             ),

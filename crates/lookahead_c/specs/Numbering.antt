@@ -4,7 +4,7 @@ use Prim.Native.Nat.{ℕ}
 use Rattle.smo.specs.declared.ending.Ending.{Ending}
 use Rattle.smo.specs.declared.ending.Ending.the-variants.{Converged, Stuck, Spent}
 use Rattle.classifying.specs.declared.classify.Class.{Class}
-use Rattle.classifying.specs.declared.classify.Class.the-variants.{LookedUp, PassedOver}
+use Rattle.classifying.specs.declared.classify.Class.the-variants.{LookedUp, PassedOver, Undecided}
 
 abbrev pub endingNumber : Ending → ℕ
 endingNumber Converged = 1
@@ -14,3 +14,4 @@ endingNumber Spent = 3
 abbrev pub classNumber : Class → ℕ
 classNumber LookedUp = 1
 classNumber PassedOver = 2
+classNumber Undecided = 3

@@ -21,5 +21,6 @@ pub fn class_number(class: Class) -> u8
     match class {
         Class::LookedUp => 1,
         Class::PassedOver => 2,
+        Class::Undecided => 3,
     }
 }

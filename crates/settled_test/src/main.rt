@@ -1,6 +1,6 @@
 // Runs the cases of its input through the library, a line each. They are document 01's settled examples P1 to P12, with the lines the
-// results settled there, and words at the ends of the range (tools/settled_cases.py). That the definitions give the settled results is
-// the theorem `settled`; this shows the compiled code give them.
+// results settled there, our own E1 to E3, and words at the ends of the range (tools/settled_cases.py). That the definitions give the
+// settled results is the theorem `settled`; this shows the compiled code give them.
 
 ghost use mathlib.Core.Path.{_≡_};
 ghost use Prim.Native.Nat.{_+_, _≤_};
@@ -124,6 +124,9 @@ fn classify(file: &[u8], multipliers: &[u32], word: &[i8]) {
             }
             Class::PassedOver => {
                 io::write_all(STDOUT_FILENO, b" passed over");
+            }
+            Class::Undecided => {
+                io::write_all(STDOUT_FILENO, b" undecided");
             }
         },
     }

@@ -1,10 +1,10 @@
 //! The calls made for one file, each answered by the library and the reference.
 
-use crate::expected;
+use crate::expected::{self, UNDECIDED};
 use crate::library::{self, CertifyAnswer, ClassifyAnswer, ReadAnswer, TrainAnswer};
 use crate::report::{Difference, Tally};
 use reference::file::{read, Problem, MOST_RECORDS};
-use reference::generate::{caller, Random};
+use reference::generate::{multipliers, words, Random};
 use std::fmt::{Arguments, Debug};
 
 /// All calls for one file; the first difference ends them. Reading comes last:
@@ -14,14 +14,17 @@ pub fn compare(file: &[u8], random: &mut Random, tally: &mut Tally) -> Result<()
     let problem = read(file).ok();
     let trained = compare_train(file, problem.as_ref(), random, tally)?;
     for _ in 0..2 {
-        let multipliers = draw_multipliers(problem.as_ref(), &trained, random);
+        let multipliers = multipliers::handed_in(problem.as_ref(), &trained, random);
         compare_certify(file, &multipliers, random, tally)?;
     }
+    let mut undecided = false;
     for _ in 0..3 {
-        let multipliers = draw_multipliers(problem.as_ref(), &trained, random);
-        let word = draw_word(problem.as_ref(), random);
-        compare_classify(file, &multipliers, &word, random, tally)?;
+        let multipliers = multipliers::handed_in(problem.as_ref(), &trained, random);
+        let word = words::handed_in(problem.as_ref(), &multipliers, random);
+        let answer = compare_classify(file, &multipliers, &word, random, tally)?;
+        undecided |= answer.number == 0 && answer.class == UNDECIDED;
     }
+    tally.count_file(undecided);
     compare_read(file, problem.as_ref(), random, tally)
 }
 
@@ -172,7 +175,7 @@ fn compare_classify(
     word: &[i8],
     random: &mut Random,
     tally: &mut Tally,
-) -> Result<(), Box<Difference>> {
+) -> Result<ClassifyAnswer, Box<Difference>> {
     let before = ClassifyAnswer {
         number: 0,
         class: random.draw() as u8,
@@ -188,25 +191,4 @@ fn compare_classify(
         expected,
         answered,
     )
-    .map(drop)
-}
-
-fn draw_multipliers(problem: Option<&Problem>, trained: &[u32], random: &mut Random) -> Vec<u32> {
-    let problem = match problem {
-        Some(problem) => problem,
-        None => return caller::any_multipliers(random),
-    };
-    match random.below(10) {
-        0..=2 => trained.to_vec(),
-        3..=6 => caller::feasible(problem, random),
-        _ => caller::spoilt_multipliers(problem, random),
-    }
-}
-
-fn draw_word(problem: Option<&Problem>, random: &mut Random) -> Vec<i8> {
-    match problem {
-        None => caller::any_word(random),
-        Some(problem) if random.chance(1, 4) => caller::spoilt_word(problem, random),
-        Some(problem) => caller::word(problem, random),
-    }
 }

@@ -22,11 +22,14 @@ fn ending_number(ending: Ending) -> u8 {
     }
 }
 
-/// "class: 1 looked up, 2 passed over" of the C interface.
+pub const UNDECIDED: u8 = 3;
+
+/// "class: 1 looked up, 2 passed over, 3 undecided" of the C interface.
 fn class_number(class: Class) -> u8 {
     match class {
         Class::LookedUp => 1,
         Class::PassedOver => 2,
+        Class::Undecided => UNDECIDED,
     }
 }
 

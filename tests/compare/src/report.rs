@@ -34,10 +34,12 @@ pub fn hex(bytes: &[u8]) -> String {
 }
 
 /// How often the reference gave each answer: by call, then by refusal, and by
-/// kernel, ending or class where there is none.
+/// kernel, ending or class where there is none. And in how many files a word lay
+/// exactly on the line.
 #[derive(Default)]
 pub struct Tally {
     counts: BTreeMap<(&'static str, u8, u8), u64>,
+    files_with_undecided: u64,
 }
 
 impl Tally {
@@ -46,7 +48,12 @@ impl Tally {
         *self.counts.entry((call, refusal, answer)).or_default() += 1;
     }
 
+    pub fn count_file(&mut self, undecided: bool) {
+        self.files_with_undecided += u64::from(undecided);
+    }
+
     pub fn add(&mut self, other: &Tally) {
+        self.files_with_undecided += other.files_with_undecided;
         for (&key, count) in &other.counts {
             *self.counts.entry(key).or_default() += count;
         }
@@ -60,6 +67,10 @@ impl Tally {
                 .collect();
             println!("{call}: {}", parts.join(", "));
         }
+        println!(
+            "files with an undecided word: {}",
+            self.files_with_undecided
+        );
     }
 }
 
@@ -71,7 +82,8 @@ fn answer_name((call, refusal, answer): (&str, u8, u8)) -> String {
         ("train", 0, 2) => "stuck".into(),
         ("train", 0, _) => "spent".into(),
         ("classify", 0, 1) => "looked up".into(),
-        ("classify", 0, _) => "passed over".into(),
+        ("classify", 0, 2) => "passed over".into(),
+        ("classify", 0, _) => "undecided".into(),
         (_, 0, _) => "answered".into(),
         (_, number, _) => format!("refused {number}"),
     }

@@ -301,6 +301,14 @@ static uint8_t judge_word(const int8_t *word, size_t len) {
     return 0;
 }
 
+/* Whether a score of 0 counts: a mutation takes it where the word is 0, or the multipliers are. */
+static int on_the_line(const Problem *p, const int8_t *word) {
+    int features = 0, multipliers = 0;
+    for (int k = 0; k < p->d; k++) features |= word[k];
+    for (int i = 0; i < p->n; i++) multipliers |= p->a[i] != 0;
+    return !WRONG(116) && !(WRONG(121) && features) && !(WRONG(122) && multipliers);
+}
+
 uint8_t lookahead_classify(const uint8_t *file, size_t len, const uint32_t *multipliers, size_t multipliers_len,
                            const int8_t *word, size_t word_len, uint8_t *class_answer) {
     Problem p;
@@ -321,6 +329,9 @@ uint8_t lookahead_classify(const uint8_t *file, size_t len, const uint32_t *mult
     int64_t middle = WRONG(24) ? 2 * p.lower : WRONG(39) ? 2 * p.upper : WRONG(40) ? 0 : p.lower + p.upper;
     int64_t score = (WRONG(41) ? 1 : 2) * sum - middle;
     if (WRONG(89)) score = (int64_t)(score << 6) >> 6;
-    *class_answer = (WRONG(23) ? score >= 0 : score > 0) ? 1 : 2;
+    if (WRONG(120)) score = sum - middle / 2;
+    if ((WRONG(117) && score == -1) || (WRONG(118) && score == 1)) score = 0;
+    if (score == 0 && on_the_line(&p, word)) *class_answer = WRONG(23) ? 1 : WRONG(119) ? 2 : 3;
+    else *class_answer = score > 0 ? 1 : WRONG(119) ? 3 : 2;
     return 0;
 }

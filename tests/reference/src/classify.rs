@@ -2,24 +2,30 @@
 
 use crate::certify::{judge_count, judge_feasible, thresholds_of};
 use crate::file::{in_range, read, Problem};
+use crate::thresholds::Thresholds;
+use std::cmp::Ordering;
 
 #[derive(Clone, Copy, PartialEq, Eq, Debug)]
 pub enum Class {
     LookedUp,
     PassedOver,
+    Undecided,
 }
 
-/// "Above 0 the answer is looked up; otherwise passed over."
+/// "Above 0 the answer is looked up; otherwise passed over", and by document 02
+/// (e) "a third answer, undecided, for a score of exactly 0".
 pub fn classify(file: &[u8], multipliers: &[u32], word: &[i8]) -> Result<Class, u8> {
-    if doubled_score(file, multipliers, word)? > 0 {
-        Ok(Class::LookedUp)
-    } else {
-        Ok(Class::PassedOver)
-    }
+    let score = doubled_score(file, multipliers, word)?;
+    Ok(match score.cmp(&0) {
+        Ordering::Greater => Class::LookedUp,
+        Ordering::Equal => Class::Undecided,
+        Ordering::Less => Class::PassedOver,
+    })
 }
 
-/// 2 × (sum of a_i × y_i × K of item i and the word) − (b_low + b_up).
-/// "Both thresholds are those of the multipliers given, worked out in the call."
+/// The score of a word, after all that a file, multipliers and a word can be
+/// refused for. "Both thresholds are those of the multipliers given, worked out
+/// in the call."
 pub fn doubled_score(file: &[u8], multipliers: &[u32], word: &[i8]) -> Result<i128, u8> {
     let problem = read(file)?;
     judge_count(&problem, multipliers)?;
@@ -33,7 +39,12 @@ pub fn doubled_score(file: &[u8], multipliers: &[u32], word: &[i8]) -> Result<i1
         return Err(9);
     }
     let both = thresholds_of(&problem, multipliers);
-    Ok(2 * weighted_sum(&problem, multipliers, word) - (both.lower + both.upper))
+    Ok(score(&problem, multipliers, both, word))
+}
+
+/// 2 × (sum of a_i × y_i × K of item i and the word) − (b_low + b_up).
+pub fn score(problem: &Problem, multipliers: &[u32], both: Thresholds, word: &[i8]) -> i128 {
+    2 * weighted_sum(problem, multipliers, word) - (both.lower + both.upper)
 }
 
 /// The sum of a_i × y_i × K of item i and the word.

@@ -1,11 +1,11 @@
-//! The settled examples P1 to P12, the cases that are run only, and every cause
-//! of a refusal.
+//! The settled examples P1 to P12, the cases that are run only, every cause of a
+//! refusal, and how often words on the line are drawn.
 
 use crate::classify::doubled_score;
 use crate::examples::*;
 use crate::file::{read, MOST_RECORDS};
 use crate::generate::draft::{Draft, LOOKED_UP, PASSED_OVER};
-use crate::generate::{causes, Random};
+use crate::generate::{any_file, causes, multipliers, words, Random};
 use crate::kernel::Kernel;
 use crate::training::{Ending, Trained};
 use crate::{certify, classify, contents, listing, run, train, Class, Contents};
@@ -75,7 +75,43 @@ fn p12_classifies_as_settled() {
     assert_eq!(doubled_score(&file, &[5, 5], &[3]), Ok(60));
     assert_eq!(classify(&file, &[5, 5], &[3]), Ok(Class::LookedUp));
     assert_eq!(doubled_score(&file, &[5, 5], &[0]), Ok(0));
-    assert_eq!(classify(&file, &[5, 5], &[0]), Ok(Class::PassedOver));
+    assert_eq!(classify(&file, &[5, 5], &[0]), Ok(Class::Undecided));
+}
+
+/// Items of features 1 and 0 have thresholds 1 and 0 with multipliers 1 1, so
+/// that no score is even.
+#[test]
+fn scores_of_1_and_minus_1_are_decided() {
+    let file = Draft {
+        items: vec![(LOOKED_UP, vec![1]), (PASSED_OVER, vec![0])],
+        ..p3()
+    }
+    .plain();
+    assert_eq!(doubled_score(&file, &[1, 1], &[0]), Ok(-1));
+    assert_eq!(classify(&file, &[1, 1], &[0]), Ok(Class::PassedOver));
+    assert_eq!(doubled_score(&file, &[1, 1], &[1]), Ok(1));
+    assert_eq!(classify(&file, &[1, 1], &[1]), Ok(Class::LookedUp));
+}
+
+/// A comparison that hardly meets a score of exactly 0 shows little. With
+/// multipliers of 0 every score is 0, so those are not counted.
+#[test]
+fn one_word_in_fifty_is_on_the_line() {
+    const WORDS: u64 = 600;
+    let on_the_line = |&number: &u64| {
+        let random = &mut Random::numbered(1, number);
+        let file = any_file(random);
+        let problem = read(&file).ok();
+        let n = problem.as_ref().map_or(0, |problem| problem.items.len());
+        let mut trained = vec![0; n];
+        let _ = train(&file, &mut trained, &mut vec![0; n]);
+        let multipliers = multipliers::handed_in(problem.as_ref(), &trained, random);
+        let word = words::handed_in(problem.as_ref(), &multipliers, random);
+        multipliers.iter().any(|&a| a > 0)
+            && classify(&file, &multipliers, &word) == Ok(Class::Undecided)
+    };
+    let counted = (0..WORDS).filter(on_the_line).count() as u64;
+    assert!(50 * counted >= WORDS);
 }
 
 #[test]

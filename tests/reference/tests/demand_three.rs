@@ -3,7 +3,7 @@
 //! something that the reference does not use: the whole grid.
 
 use reference::file::{read, Problem};
-use reference::generate::{caller, tiny, Random};
+use reference::generate::{multipliers::feasible, tiny, Random};
 use reference::gradient::{gradient, objective};
 use reference::kernel::{table, Table};
 use reference::thresholds::{thresholds, Thresholds};
@@ -76,7 +76,7 @@ fn what_training_leaves_keeps_the_bound() {
 fn what_certifying_accepts_keeps_the_bound() {
     let mut random = Random::new(3);
     for problem in files(2) {
-        let multipliers: Vec<i128> = caller::feasible(&problem, &mut random)
+        let multipliers: Vec<i128> = feasible(&problem, &mut random)
             .into_iter()
             .map(i128::from)
             .collect();

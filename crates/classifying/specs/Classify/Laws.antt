@@ -1,12 +1,18 @@
--- Laws of classifying: K of an item and the word either way round, the size of a score, and the answer by the stage that gives it. Assumes nothing.
-use mathlib.Core.Path.{_≡_, refl, sym, _∙_, ap}
+-- Laws of classifying: K of an item and the word either way round, the size of a score, what each class means, the answer by the stage
+-- that gives it, and the answer by multipliers that are all 0. Assumes nothing.
+use mathlib.Core.Path.{_≡_, refl, sym, _∙_, ap, subst}
+use mathlib.Core.Logic.{_↔_}
 use mathlib.Core.Bool.{Bool, true, false, cond, _&&_}
-use mathlib.Core.List.{List}
-use Prim.Native.Nat.{ℕ, _+_, _*_, _≤_}
+use mathlib.Core.List.{List, [], _∷_}
+use Prim.Native.Nat.{ℕ, zero, suc, _+_, _*_, _≤_, _<_}
 use native.Mathlib.Omega.{arith}
 use lib.Dec.{eqb}
-use lib.IntN.{ℤ, pos, natAbs, _+ℤ_, _*ℤ_}
+use lib.IntN.{ℤ, pos, negsuc, natAbs, _+ℤ_, _-ℤ_, _*ℤ_}
 use lib.ListN.{length}
+use lib.Signed.{_<ℤ_}
+use Rattle.integers.specs.Test.{chose-either}
+use Rattle.integers.specs.Solver.{con, ⊝_, _⊕_, _⊗_, _⊖_, x₀, solve}
+use Rattle.integers.specs.Linear.{integer}
 use Rattle.integers.specs.Bounds.{+ℤ-bound, -ℤ-bound, *ℤ-bound}
 use Rattle.training_file.specs.declared.parameters.Parameters.{Parameters}
 use Rattle.training_file.specs.declared.item.Item.{Item}
@@ -17,15 +23,18 @@ use Rattle.reading.specs.Reading.{Reading, refused, accepted, reading}
 use Rattle.reading.specs.Calls.{itemIn, itemsIn, fileAnswer}
 use Rattle.dual_problem.specs.Kernel.{kernelValue}
 use Rattle.dual_problem.specs.Kernel.Laws.{kernelValue-comm, kernelValue-cong}
-use Rattle.dual_problem.specs.Problem.{problem}
+use Rattle.dual_problem.specs.Problem.{LabelsPresent, problem}
+use Rattle.dual_problem.specs.Problem.Laws.Zeros.{b-low-zeros, b-up-zeros, zeros-weighed}
 use Rattle.dual_problem.specs.Items.{at, weighedSum}
 use Rattle.dual_problem.specs.Size.{gradientMost, scoreMost, weighedMost}
-use Rattle.dual_problem.specs.Items.Laws.Read.{Read}
+use Rattle.dual_problem.specs.Items.Laws.Read.{Read, labels-present}
 use Rattle.certifying.specs.declared.certify.Thresholds.{Thresholds}
 use Rattle.certifying.specs.declared.multipliers.Judgement.{Judgement}
 use Rattle.certifying.specs.declared.multipliers.Judgement.the-variants as judged
 use Rattle.certifying.specs.Multipliers.{balance, isZero, judgement, withinCeilings}
 use Rattle.certifying.specs.Multipliers.Laws.{verdict}
+use Rattle.classifying.specs.declared.classify.Class.{Class}
+use Rattle.classifying.specs.declared.classify.Class.the-variants.{LookedUp, PassedOver, Undecided}
 use Rattle.classifying.specs.declared.classify.Classified.{Classified}
 use Rattle.classifying.specs.declared.classify.Classified.the-variants.{Refused, Is}
 use Rattle.classifying.specs.Classify.{SameFeatures, classOf, classifyItems, classifyJudged, classifyRead, classifying, score, scoreWith, wordAllowed, wordKernel}
@@ -50,6 +59,30 @@ module _ (p : Parameters) (items : List Item) (a : ℕ → ℕ) (thresholds : Th
       let twice = *ℤ-bound (pos 2) whole {A = 2} (omega arith) h in
       let both = +ℤ-bound (thresholds .lower) (thresholds .upper) l u in
       (twice, both, -ℤ-bound (pos 2 *ℤ whole) (thresholds .lower +ℤ thresholds .upper) twice both)
+
+-- ---- the class of a score
+-- what a class means
+abbrev pub Means : Class → ℤ → Type 0
+Means LookedUp value = pos 0 <ℤ value
+Means PassedOver value = value <ℤ pos 0
+Means Undecided value = value ≡ pos 0
+
+class-means : (value : ℤ) → Means (classOf value) value
+class-means (pos (suc n)) = omega (arith, integer)
+class-means (pos zero) = refl
+class-means (negsuc n) = omega (arith, integer)
+
+means-class : (class : Class) (value : ℤ) → Means class value → classOf value ≡ class
+means-class LookedUp (pos (suc n)) h = refl
+means-class LookedUp (pos zero) h = absurd (omega (arith, integer))
+means-class LookedUp (negsuc n) h = absurd (omega (arith, integer))
+means-class PassedOver (pos n) h = absurd (omega (arith, integer))
+means-class PassedOver (negsuc n) h = refl
+means-class Undecided value h = ap classOf h
+
+-- a score has a class exactly where it is as the class means
+pub class-exactly : (class : Class) (value : ℤ) → (classOf value ≡ class) ↔ Means class value
+class-exactly class value = (λ e. subst (λ k. Means k value) e (class-means value), means-class class value)
 
 -- ---- the answer, by the stage that gives it
 -- a refusal of the file is the answer
@@ -95,3 +128,30 @@ module _ (p : Parameters) (items : List Item) (a : List ℕ) (word : List ℤ) w
   pub feasible-are : {t : Bool} → eqb (length word) (p .used) ≡ true → judgement (problem p items) a ≡ judged.Feasible → wordAllowed word ≡ t
       → classifyItems p items a word ≡ cond t class (Refused (refusal 9))
   feasible-are e f g = items-are e f ∙ (λ i. cond (g i) class (Refused (refusal 9)))
+
+-- ---- multipliers that are all 0, as a training of no step leaves them
+zeros-score : (p : Parameters) (items : List Item) (a : ℕ → ℕ) → ((i : ℕ) → i < length items → a i ≡ 0) → LabelsPresent (problem p items) → (word : List ℤ)
+    → score p items a word ≡ pos 0
+unfolding scoreWith
+zeros-score p items a zeros present word =
+    let P = problem p items in
+    (λ i. pos 2 *ℤ zeros-weighed P a zeros (wordKernel p items word) i -ℤ (b-low-zeros P a zeros present i +ℤ b-up-zeros P a zeros present i))
+    ∙ solve (pos (p .grid) ∷ []) (con (pos 2) ⊗ con (pos 0) ⊖ (x₀ ⊕ ⊝ x₀)) (con (pos 0)) refl
+
+-- a refusal, or undecided
+abbrev pub UndecidedUnlessRefused : Classified → Type 0
+UndecidedUnlessRefused (Refused why) = Unit {0}
+UndecidedUnlessRefused (Is class) = class ≡ Undecided
+
+-- with such multipliers a word that isn't refused is undecided
+pub zeros-undecided : (file a : List ℕ) (word : List ℤ) → ((i : ℕ) → at a i ≡ 0) → UndecidedUnlessRefused (classifying file a word)
+zeros-undecided file a word zeros = by (reading file) refl
+  where
+    by : (r : Reading) → reading file ≡ r → UndecidedUnlessRefused (classifyRead r a word)
+    by (refused number) e = tt
+    by (accepted p order items) e = chose-either UndecidedUnlessRefused (eqb (length word) (p .used)) (by-judgement (judgement (problem p items) a)) tt
+      where
+        by-judgement : (j : Judgement) → UndecidedUnlessRefused (classifyJudged p items a word j)
+        by-judgement (judged.Refused why) = tt
+        by-judgement judged.Feasible =
+            chose-either UndecidedUnlessRefused (wordAllowed word) (ap classOf (zeros-score p items (at a) (λ i l. zeros i) (labels-present file p order items e) word)) tt

@@ -3,6 +3,7 @@
 pub mod Same
 pub mod Sets
 pub mod Distance
+pub mod Zeros
 use mathlib.Core.Path.{_≡_, refl, sym, _∙_, ap}
 use mathlib.Core.List.{List, [], _∷_}
 use Prim.Native.Nat.{ℕ, _*_, _<_}

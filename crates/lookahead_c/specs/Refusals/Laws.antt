@@ -1,12 +1,13 @@
 -- Each call refuses with the numbers named for it, and no others. Assumes nothing.
 use mathlib.Core.Path.{_≡_, refl}
-use mathlib.Core.Bool.{Bool, true, false, cond, _&&_}
+use mathlib.Core.Bool.{_&&_}
 use mathlib.Core.List.{List}
 use Prim.Native.Nat.{ℕ, _≤_}
 use native.Mathlib.Omega.{arith}
 use lib.Dec.{eqb, leb}
 use lib.IntN.{ℤ}
 use lib.ListN.{length}
+use Rattle.integers.specs.Test.{chose-either}
 use Rattle.training_file.specs.declared.parameters.Parameters.{Parameters}
 use Rattle.training_file.specs.declared.item.Item.{Item}
 use Rattle.reading.specs.Reading.{Reading, refused, accepted, reading}
@@ -25,11 +26,6 @@ use Rattle.classifying.specs.declared.classify.Classified.the-variants as class
 use Rattle.classifying.specs.Classify.{classifying, classifyItems, classifyJudged, classifyRead, wordAllowed}
 use Rattle.lookahead_c.specs.Refusals.{CertifyRefusals, ClassifyRefusals, ReadRefusals, TrainRefusals}
 
--- what holds of both values holds of the one that a test picks
-picked : {A : Type 0} (Q : A → Type 0) (test : Bool) {x y : A} → Q x → Q y → Q (cond test x y)
-picked Q true p q = p
-picked Q false p q = q
-
 -- ---- reading: 1 to 5
 pub read-refusals : (file : List ℕ) → ReadRefusals (fileAnswer (reading file))
 read-refusals file = by (reading file) refl where
@@ -43,7 +39,7 @@ train-refusals file a g = by (reading file) refl where
   by : (x : Reading) → reading file ≡ x → TrainRefusals (trainRead x a g .answer)
   by (refused number) e = let n = refused-within file number e in (n .0, omega arith)
   by (accepted p order items) e =
-      picked (λ (left : TrainingLeft). TrainRefusals (left .answer)) (leb (length items) (length a) && leb (length items) (length g)) tt (omega arith, omega arith)
+      chose-either (λ (left : TrainingLeft). TrainRefusals (left .answer)) (leb (length items) (length a) && leb (length items) (length g)) tt (omega arith, omega arith)
 
 -- ---- judged multipliers: 6 to 8
 abbrev JudgedRefusals : Judgement → Type 0
@@ -52,9 +48,9 @@ JudgedRefusals judged.Feasible = Unit {0}
 
 judged-refusals : (P : Problem) (a : List ℕ) → JudgedRefusals (judgement P a)
 judged-refusals P a =
-    picked JudgedRefusals (eqb (length a) (P .count))
-    (picked JudgedRefusals (withinCeilings (P .count) P (at a))
-    (picked JudgedRefusals (isZero (balance P (at a))) tt (omega arith, omega arith))
+    chose-either JudgedRefusals (eqb (length a) (P .count))
+    (chose-either JudgedRefusals (withinCeilings (P .count) P (at a))
+    (chose-either JudgedRefusals (isZero (balance P (at a))) tt (omega arith, omega arith))
     (omega arith, omega arith))
     (omega arith, omega arith)
 
@@ -73,11 +69,11 @@ certify-refusals file a = by (reading file) refl where
 module _ (p : Parameters) (items : List Item) (a : List ℕ) (word : List ℤ) where
   classify-judged : (j : Judgement) → JudgedRefusals j → ClassifyRefusals (classifyJudged p items a word j)
   classify-judged (judged.Refused why) n = (omega arith, omega arith)
-  classify-judged judged.Feasible n = picked ClassifyRefusals (wordAllowed word) tt (omega arith, omega arith)
+  classify-judged judged.Feasible n = chose-either ClassifyRefusals (wordAllowed word) tt (omega arith, omega arith)
 
   classify-items : ClassifyRefusals (classifyItems p items a word)
   classify-items =
-      picked ClassifyRefusals (eqb (length word) (p .used))
+      chose-either ClassifyRefusals (eqb (length word) (p .used))
       (classify-judged (judgement (problem p items) a) (judged-refusals (problem p items) a))
       (omega arith, omega arith)
 

@@ -9,15 +9,15 @@ use mathlib.Core.Option.{Option, none, some}
 use Prim.Native.Nat.{ℕ, zero, suc, _+_, _-_, _*_, _≤_, _<_}
 use native.Mathlib.Nat.{zero-add, suc-add, add-zero}
 use native.Mathlib.Omega.{arith}
-use lib.IntN.{ℤ, pos, negsuc, _+ℤ_, _-ℤ_, _*ℤ_, zero-*ℤ}
+use lib.IntN.{ℤ, pos, negsuc, _+ℤ_, _-ℤ_}
 use lib.ListN.{length, replicate, length-replicate, getD-replicate}
 use lib.Signed.{leZ, _≤ℤ_, _<ℤ_, clashℤ}
 use Rattle.integers.specs.Linear.{integer, -ℤ-parts, +ℤ-parts}
 use Rattle.integers.specs.Order.{leZ-true, leZ-false}
-use Rattle.integers.specs.Sum.Laws.{sum-zero}
 use Rattle.integers.specs.Gram.{Gram}
-use Rattle.dual_problem.specs.Problem.{BoundedDistance, LabelsPresent, Problem, Feasible, y, bUp, bLow, objective, gap, notBelowZero}
+use Rattle.dual_problem.specs.Problem.{BoundedDistance, LabelsPresent, Problem, Feasible, bUp, bLow, objective, gap, notBelowZero}
 use Rattle.dual_problem.specs.Problem.Laws.Distance.{bounded-distance}
+use Rattle.dual_problem.specs.Problem.Laws.Zeros.{zeros-feasible}
 use Rattle.dual_problem.specs.Items.{at}
 use Rattle.working_pair.specs.Step.{Candidate, amount, moved, workingPair}
 use Rattle.working_pair.specs.Step.Laws.{moved-length, moved-feasible, moves-apart, candidate-moves}
@@ -292,22 +292,14 @@ module _ (P : Problem) (t : ℕ) where
 abbrev pub zeros : ℕ → List ℕ
 zeros n = replicate n 0
 
-pub zeros-feasible : (P : Problem) → Feasible P (at (zeros (P .count)))
-zeros-feasible P =
-    record {
-      within = λ i l. omega (arith, zero-at i l);
-      balanced = sum-zero (P .count) (λ i. pos (at (zeros (P .count)) i) *ℤ y P i) (λ i l. ap (λ w. pos w *ℤ y P i) (zero-at i l) ∙ zero-*ℤ (y P i));
-    }
-  where
-    zero-at : (i : ℕ) → i < P .count → at (zeros (P .count)) i ≡ 0
-    zero-at i l = getD-replicate {A = ℕ} (P .count) i 0 0 l
-
 pub zeros-length : (n : ℕ) → length (zeros n) ≡ n
 zeros-length n = length-replicate {A = ℕ} n 0
 
 -- what training leaves, where no ceiling is above c
 pub training-sound : (P : Problem) → Gram (P .count) (P .kernel) → LabelsPresent P → (t budget c : ℕ) → ((i : ℕ) → i < P .count → P .ceiling i ≤ c) → Sound P t budget c (training P t budget)
-training-sound P gram present t budget c top = run-sound P t gram budget (zeros (P .count)) (omega (arith, zeros-length (P .count))) (zeros-feasible P) present c top
+training-sound P gram present t budget c top =
+    run-sound P t gram budget (zeros (P .count)) (omega (arith, zeros-length (P .count)))
+    (zeros-feasible P (at (zeros (P .count))) (λ i l. getD-replicate {A = ℕ} (P .count) i 0 0 l)) present c top
 
 pub training-length : (P : Problem) (t budget : ℕ) → length (training P t budget .multipliers) ≡ P .count
 training-length P t budget = run-length P t budget (zeros (P .count)) ∙ zeros-length (P .count)

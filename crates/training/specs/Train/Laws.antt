@@ -22,11 +22,12 @@ use Rattle.reading.specs.Reading.{Reading, refused, accepted, reading}
 use Rattle.reading.specs.Calls.{itemsIn, fileAnswer}
 use Rattle.dual_problem.specs.Problem.{Problem, Feasible, problem, gradient}
 use Rattle.dual_problem.specs.Problem.Laws.{problem-gram}
-use Rattle.dual_problem.specs.Problem.Laws.Same.{gradient-cong, b-up-cong, b-low-cong, feasible-cong}
+use Rattle.dual_problem.specs.Problem.Laws.Same.{gradient-cong, b-up-cong, b-low-cong}
+use Rattle.dual_problem.specs.Problem.Laws.Zeros.{zeros-feasible}
 use Rattle.dual_problem.specs.Items.{at, problemOf}
 use Rattle.dual_problem.specs.Items.Laws.Read.{Read, labels-present}
 use Rattle.smo.specs.Run.{run, training}
-use Rattle.smo.specs.Run.Laws.{zeros, zeros-length, zeros-feasible, training-length, training-sound}
+use Rattle.smo.specs.Run.Laws.{zeros, zeros-length, training-length, training-sound}
 use Rattle.smo.specs.Run.Laws.Append.{run-append}
 use Rattle.smo.specs.Answer.{trainedOf}
 use Rattle.training.specs.Train.{ResultQuality, TrainingQuality, endedWith, unchanged, trainFile, trainRead}
@@ -40,7 +41,7 @@ module _ (P : Problem) (l : List ℕ) (long : P .count ≤ length l) where
   cleared-at i k = written-at (P .count) (λ i. 0) l 0 long i k
 
   pub cleared-feasible : Feasible P (at (written (P .count) (λ (i : ℕ). 0) l))
-  cleared-feasible = feasible-cong P (at (zeros (P .count))) (at cleared) (λ i k. getD-replicate (P .count) i 0 0 k ∙ sym (cleared-at i k)) (zeros-feasible P)
+  cleared-feasible = zeros-feasible P (at cleared) cleared-at
 
   -- a list of n in the first places of l
   front : (a : List ℕ) → length a ≡ P .count → written (P .count) (at a) l ≡ a ++ drop (P .count) l

@@ -1,11 +1,13 @@
 //! Training files, multipliers and words drawn from a seed: the same seed gives
 //! the same bytes on every machine.
 
-pub mod caller;
 pub mod damage;
 pub mod draft;
+mod mirror;
+pub mod multipliers;
 pub mod random;
 pub mod sound;
+pub mod words;
 
 use crate::examples;
 pub use damage::{causes, damaged, every_damage};
@@ -13,7 +15,8 @@ pub use draft::Draft;
 pub use random::Random;
 pub use sound::{sound, sound_with, tiny};
 
-/// A file of any kind: most are accepted, some are damaged, a few are noise.
+/// A file of any kind: most are accepted, some of them mirrored; some are
+/// damaged, a few are noise.
 pub fn any_file(random: &mut Random) -> Vec<u8> {
     match random.below(20) {
         0 => noise(random),
@@ -21,6 +24,7 @@ pub fn any_file(random: &mut Random) -> Vec<u8> {
             let file = sound(random);
             sound::tamed(damaged(&file, random))
         }
+        5..=8 => sound::mirrored(random),
         _ => sound(random),
     }
 }

@@ -2,6 +2,7 @@
 //! copies of items (η = 0) and on budgets that run out just at the ending.
 
 use super::draft::{Draft, LOOKED_UP, PASSED_OVER};
+use super::mirror::Mirror;
 use super::random::Random;
 use crate::file::{
     read, HIGHEST_BUDGET, HIGHEST_CEILING, HIGHEST_FEATURE, HIGHEST_TOLERANCE, LOWEST_FEATURE,
@@ -76,6 +77,20 @@ pub fn sound_with(random: &mut Random, items: usize) -> Vec<u8> {
     } else {
         file
     }
+}
+
+/// An accepted file whose items come in pairs: an item, and then its image in a
+/// mirror with the other label.
+pub fn mirrored(random: &mut Random) -> Vec<u8> {
+    let items = item_count(random);
+    let mut draft = draft(random, items - items % 2);
+    let mirror = random.pick(&Mirror::ALL);
+    for pair in draft.items.chunks_mut(2) {
+        let (label, features) = &pair[0];
+        let other = LOOKED_UP + PASSED_OVER - label;
+        pair[1] = (other, mirror.image(features));
+    }
+    tamed(laid_out(&draft, random))
 }
 
 /// An accepted file of few items, shuffled among a few spare records.

@@ -1,12 +1,12 @@
 -- Multipliers that are the same below n have the same gradient, sets, thresholds and objective. Assumes nothing.
-use mathlib.Core.Path.{_≡_, sym, _∙_, ap, subst}
-use Prim.Native.Nat.{ℕ, _≤_, _<_}
+use mathlib.Core.Path.{_≡_, ap}
+use Prim.Native.Nat.{ℕ, _<_}
 use lib.IntN.{pos, _-ℤ_, _*ℤ_}
 use lib.Signed.{ltZ}
 use Rattle.integers.specs.Sum.Laws.{sum-cong, sum-cong₂}
 use Rattle.integers.specs.Extremum.{valueAt}
 use Rattle.integers.specs.Extremum.Laws.{ltZ-strict, gtZ-strict, extreme-cong}
-use Rattle.dual_problem.specs.Problem.{Problem, Feasible, y, gradient, inUp, inLow, up, low, bUp, bLow, doubleSum, objective}
+use Rattle.dual_problem.specs.Problem.{Problem, y, gradient, inUp, inLow, up, low, bUp, bLow, doubleSum, objective}
 
 module _ (P : Problem) (f g : ℕ → ℕ) (same : (k : ℕ) → k < P .count → f k ≡ g k) where
   pub gradient-cong : (i : ℕ) → gradient P f i ≡ gradient P g i
@@ -32,10 +32,3 @@ module _ (P : Problem) (f g : ℕ → ℕ) (same : (k : ℕ) → k < P .count �
 
   pub b-low-cong : bLow P f ≡ bLow P g
   b-low-cong = λ d. valueAt (λ k. gradient-cong k d) (extreme-cong (λ p q. ltZ q p) gtZ-strict (P .count) (low P f) (low P g) (gradient P f) (gradient P g) low-cong (λ i l. gradient-cong i) d)
-
-  pub feasible-cong : Feasible P f → Feasible P g
-  feasible-cong h =
-      record {
-        within = λ i l. subst (λ w. w ≤ P .ceiling i) (same i l) (h .within i l);
-        balanced = sym (sum-cong (P .count) (λ i. pos (f i) *ℤ y P i) (λ i. pos (g i) *ℤ y P i) (λ i l e. pos (same i l e) *ℤ y P i)) ∙ h .balanced;
-      }

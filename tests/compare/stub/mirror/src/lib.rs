@@ -110,6 +110,7 @@ pub unsafe extern "C" fn lookahead_classify(
             *class = match answer {
                 Class::LookedUp => 1,
                 Class::PassedOver => 2,
+                Class::Undecided => 3,
             };
             0
         }

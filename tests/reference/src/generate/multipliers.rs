@@ -1,18 +1,33 @@
-//! What a caller hands in beside the file: multipliers and words, right and wrong.
+//! The multipliers that a caller hands in beside the file, right and wrong.
 
-use super::draft::{any_feature, NO_FEATURE};
 use super::random::Random;
-use crate::file::{Problem, HIGHEST_CEILING, HIGHEST_FEATURE, LOWEST_FEATURE};
+use crate::file::{Problem, HIGHEST_CEILING};
 use crate::thresholds::{in_low_set, in_up_set};
 use crate::training::run;
 
-/// Feasible multipliers: zeros, those of a short training, as many at the
-/// ceiling as there can be, or those that random moves of two lead to.
+/// What a caller may hand in: those that training left, others that are feasible,
+/// or wrong ones. Without a problem the file is refused, and any will do.
+pub fn handed_in(problem: Option<&Problem>, trained: &[u32], random: &mut Random) -> Vec<u32> {
+    let problem = match problem {
+        Some(problem) => problem,
+        None => return any(random),
+    };
+    match random.below(10) {
+        0..=2 => trained.to_vec(),
+        3..=6 => feasible(problem, random),
+        _ => spoilt(problem, random),
+    }
+}
+
+/// Feasible multipliers: zeros, those of a short training, those of pairs with
+/// one multiplier each, or those that random moves of two lead to.
 pub fn feasible(problem: &Problem, random: &mut Random) -> Vec<u32> {
+    let ceiling = problem.parameters.ceiling;
     let multipliers = match random.below(8) {
         0 => vec![0; problem.items.len()],
         1 => trained_briefly(problem, random),
-        2 => full(problem),
+        2 => paired(problem, || ceiling),
+        3 | 4 => paired(problem, || random.between(0, ceiling as i64).into()),
         _ => wandered(problem, random),
     };
     multipliers.into_iter().map(|a| a as u32).collect()
@@ -25,15 +40,16 @@ fn trained_briefly(problem: &Problem, random: &mut Random) -> Vec<i128> {
     run(&short).multipliers
 }
 
-/// The first items of both labels at the ceiling, as many of one as of the other.
-fn full(problem: &Problem) -> Vec<i128> {
+/// The first items of each label in pairs, as many as there are: both of a pair
+/// get the same multiplier. Mirrored items are such pairs.
+fn paired(problem: &Problem, mut multiplier: impl FnMut() -> i128) -> Vec<i128> {
     let of = |sign: i128| {
         (0..problem.items.len()).filter(move |&i| problem.items[i].label.sign() == sign)
     };
     let mut multipliers = vec![0; problem.items.len()];
     for (plus, minus) in of(1).zip(of(-1)) {
-        multipliers[plus] = problem.parameters.ceiling;
-        multipliers[minus] = problem.parameters.ceiling;
+        multipliers[plus] = multiplier();
+        multipliers[minus] = multipliers[plus];
     }
     multipliers
 }
@@ -67,7 +83,7 @@ fn wandered(problem: &Problem, random: &mut Random) -> Vec<i128> {
 
 /// Multipliers that are off in one or more ways: over the ceiling, unbalanced,
 /// or of a wrong number.
-pub fn spoilt_multipliers(problem: &Problem, random: &mut Random) -> Vec<u32> {
+fn spoilt(problem: &Problem, random: &mut Random) -> Vec<u32> {
     let mut multipliers = feasible(problem, random);
     for _ in 0..random.pick(&[1, 1, 1, 2]) {
         spoil(&mut multipliers, problem, random);
@@ -115,51 +131,8 @@ fn over_ceiling_in_balance(multipliers: &mut [u32], problem: &Problem) {
 }
 
 /// Any multipliers, for a file that is refused.
-pub fn any_multipliers(random: &mut Random) -> Vec<u32> {
+fn any(random: &mut Random) -> Vec<u32> {
     (0..random.below(6))
         .map(|_| random.below(HIGHEST_CEILING + 2) as u32)
         .collect()
-}
-
-/// A word of d features in their range: anywhere, zeros, or near an item.
-pub fn word(problem: &Problem, random: &mut Random) -> Vec<i8> {
-    let d = problem.parameters.features;
-    match random.below(5) {
-        0 => vec![0; d],
-        1 => near_item(problem, random),
-        2 => (0..d)
-            .map(|_| random.pick(&[LOWEST_FEATURE, HIGHEST_FEATURE]))
-            .collect(),
-        3 => (0..d).map(|_| random.between(-2, 2) as i8).collect(),
-        _ => (0..d).map(|_| any_feature(random)).collect(),
-    }
-}
-
-fn near_item(problem: &Problem, random: &mut Random) -> Vec<i8> {
-    let item = &problem.items[random.below(problem.items.len() as u64) as usize];
-    let nudge = random.pick(&[0, 0, 1, 10]);
-    let near = |&feature: &i8| {
-        let nudged = i64::from(feature) + random.between(-nudge, nudge);
-        nudged.clamp(LOWEST_FEATURE.into(), HIGHEST_FEATURE.into()) as i8
-    };
-    item.features.iter().map(near).collect()
-}
-
-/// A word with a wrong number of features, a feature out of range, or both.
-pub fn spoilt_word(problem: &Problem, random: &mut Random) -> Vec<i8> {
-    let mut word = word(problem, random);
-    let place = random.below(word.len() as u64) as usize;
-    match random.below(6) {
-        0 => word.truncate(place),
-        1 => word.push(random.pick(&[0, 5, NO_FEATURE])),
-        2 => word.resize(16, 0),
-        3 => word = any_word(random),
-        _ => word[place] = NO_FEATURE,
-    }
-    word
-}
-
-/// Any word, for a file that is refused.
-pub fn any_word(random: &mut Random) -> Vec<i8> {
-    (0..random.below(18)).map(|_| random.draw() as i8).collect()
 }
