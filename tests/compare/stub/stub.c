@@ -301,7 +301,7 @@ static uint8_t judge_word(const int8_t *word, size_t len) {
     return 0;
 }
 
-/* Whether a score of 0 counts: a mutation takes it where the word is 0, or the multipliers are. */
+/* Whether a score of 0 makes the word undecided: always, but for three mutations. */
 static int on_the_line(const Problem *p, const int8_t *word) {
     int features = 0, multipliers = 0;
     for (int k = 0; k < p->d; k++) features |= word[k];
