@@ -57,11 +57,10 @@ fn beside_the_line(problem: &Problem, multipliers: &[u32], random: &mut Random) 
     }
     let both = thresholds_of(problem, multipliers);
     let place = random.below(word.len() as u64) as usize;
-    let mut from_the_line = |&feature: &i8| {
+    let nearest = (LOWEST_FEATURE..=HIGHEST_FEATURE).min_by_key(|&feature| {
         word[place] = feature;
         score(problem, multipliers, both, &word).abs()
-    };
-    let nearest = (LOWEST_FEATURE..=HIGHEST_FEATURE).min_by_key(&mut from_the_line);
+    });
     word[place] = nearest.expect("there are features");
     word
 }
