@@ -1,10 +1,12 @@
 //! The settled examples P1 to P12, the cases that are run only, every cause of a
 //! refusal, and how often words on the line are drawn.
 
-use crate::classify::doubled_score;
+use crate::certify::thresholds_of;
+use crate::classify::{doubled_score, score};
 use crate::examples::*;
 use crate::file::{read, MOST_RECORDS};
-use crate::generate::draft::{Draft, LOOKED_UP, PASSED_OVER};
+use crate::generate::draft::{any_feature, Draft, LOOKED_UP, PASSED_OVER};
+use crate::generate::mirror::Mirror;
 use crate::generate::{any_file, causes, multipliers, words, Random};
 use crate::kernel::Kernel;
 use crate::training::{Ending, Trained};
@@ -93,12 +95,24 @@ fn scores_of_1_and_minus_1_are_decided() {
     assert_eq!(classify(&file, &[1, 1], &[1]), Ok(Class::LookedUp));
 }
 
-/// A comparison that hardly meets a score of exactly 0 shows little. With
-/// multipliers of 0 every score is 0, so those are not counted.
+/// Whether a word is on a line that decides one of the file's own items. Where
+/// it decides none, as with multipliers of 0 or with items all alike, every word
+/// is undecided, and that shows little.
+fn on_a_line(file: &[u8], multipliers: &[u32], word: &[i8]) -> bool {
+    if classify(file, multipliers, word) != Ok(Class::Undecided) {
+        return false;
+    }
+    let problem = read(file).expect("it was classified");
+    let both = thresholds_of(&problem, multipliers);
+    let decided = |features: &[i8]| score(&problem, multipliers, both, features) != 0;
+    problem.items.iter().any(|item| decided(&item.features))
+}
+
+/// A comparison that hardly meets a score of exactly 0 shows little.
 #[test]
-fn one_word_in_fifty_is_on_the_line() {
-    const WORDS: u64 = 600;
-    let on_the_line = |&number: &u64| {
+fn one_word_in_fifty_is_on_a_line() {
+    const WORDS: u64 = 1_000;
+    let drawn_on_a_line = |&number: &u64| {
         let random = &mut Random::numbered(1, number);
         let file = any_file(random);
         let problem = read(&file).ok();
@@ -107,11 +121,31 @@ fn one_word_in_fifty_is_on_the_line() {
         let _ = train(&file, &mut trained, &mut vec![0; n]);
         let multipliers = multipliers::handed_in(problem.as_ref(), &trained, random);
         let word = words::handed_in(problem.as_ref(), &multipliers, random);
-        multipliers.iter().any(|&a| a > 0)
-            && classify(&file, &multipliers, &word) == Ok(Class::Undecided)
+        on_a_line(&file, &multipliers, &word)
     };
-    let counted = (0..WORDS).filter(on_the_line).count() as u64;
-    assert!(50 * counted >= WORDS);
+    let counted = (0..WORDS).filter(drawn_on_a_line).count() as u64;
+    assert!(50 * counted >= WORDS, "{counted} of {WORDS}");
+}
+
+/// A mirror is its own inverse, keeps every kernel value, and gives words that
+/// are their own image.
+#[test]
+fn mirrors_reflect() {
+    let random = &mut Random::new(7);
+    for features in 1..=16 {
+        for _ in 0..20 {
+            let mirror = Mirror::draw(random, features);
+            let mut draw = || -> Vec<i8> { (0..features).map(|_| any_feature(random)).collect() };
+            let (x, z) = (draw(), draw());
+            assert_eq!(mirror.image(&mirror.image(&x)), x);
+            for kernel in [Kernel::Linear, Kernel::Square] {
+                let images = kernel.value(&mirror.image(&x), &mirror.image(&z));
+                assert_eq!(images, kernel.value(&x, &z));
+            }
+            let own = mirror.own_image(&x);
+            assert_eq!(mirror.image(&own), own);
+        }
+    }
 }
 
 #[test]

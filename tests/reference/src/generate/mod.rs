@@ -3,7 +3,7 @@
 
 pub mod damage;
 pub mod draft;
-mod mirror;
+pub mod mirror;
 pub mod multipliers;
 pub mod random;
 pub mod sound;
@@ -24,7 +24,7 @@ pub fn any_file(random: &mut Random) -> Vec<u8> {
             let file = sound(random);
             sound::tamed(damaged(&file, random))
         }
-        5..=8 => sound::mirrored(random),
+        5..=9 => sound::mirrored(random),
         _ => sound(random),
     }
 }

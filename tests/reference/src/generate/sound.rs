@@ -84,7 +84,7 @@ pub fn sound_with(random: &mut Random, items: usize) -> Vec<u8> {
 pub fn mirrored(random: &mut Random) -> Vec<u8> {
     let items = item_count(random);
     let mut draft = draft(random, items - items % 2);
-    let mirror = random.pick(&Mirror::ALL);
+    let mirror = Mirror::draw(random, draft.features.into());
     for pair in draft.items.chunks_mut(2) {
         let (label, features) = &pair[0];
         let other = LOOKED_UP + PASSED_OVER - label;

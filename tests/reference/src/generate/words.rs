@@ -23,16 +23,19 @@ pub fn handed_in(problem: Option<&Problem>, multipliers: &[u32], random: &mut Ra
     }
 }
 
-/// A word of d features in their range: its own image in a mirror, near an item,
-/// at the ends of the range, near zero, or anywhere.
+/// A word of d features in their range: for mirrored items often its own image;
+/// zeros, near an item, at the ends of the range, near zero, or anywhere.
 fn sound(problem: &Problem, random: &mut Random) -> Vec<i8> {
-    match random.below(8) {
-        0..=3 => random
-            .pick(&Mirror::ALL)
-            .own_image(&anywhere(problem, random)),
-        4 => near_item(problem, random),
-        5 => of_features(problem, || random.pick(&[LOWEST_FEATURE, HIGHEST_FEATURE])),
-        6 => of_features(problem, || random.between(-2, 2) as i8),
+    if let Some(mirror) = Mirror::of(problem) {
+        if random.chance(2, 3) {
+            return mirror.own_image(&anywhere(problem, random));
+        }
+    }
+    match random.below(5) {
+        0 => of_features(problem, || 0),
+        1 => near_item(problem, random),
+        2 => of_features(problem, || random.pick(&[LOWEST_FEATURE, HIGHEST_FEATURE])),
+        3 => of_features(problem, || random.between(-2, 2) as i8),
         _ => anywhere(problem, random),
     }
 }
