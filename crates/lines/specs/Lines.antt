@@ -1,9 +1,9 @@
--- The lines of the listing (document 01, last part of "Settled examples"), as lists of bytes: 32 is the space and 10 ends a line. Laws are
--- in Lines/Laws.antt. Assumes nothing.
+-- The lines of the listing (document 01, last part of "Settled examples", and document 02, request (l)), as lists of bytes: 32 is the space
+-- and 10 ends a line. Laws are in Lines/Laws.antt. Assumes nothing.
 pub mod Laws
 use mathlib.Core.List.{List, [], _∷_, _++_}
 use Prim.Native.Nat.{ℕ, zero, suc}
-use lib.IntN.{ℤ, pos}
+use lib.IntN.{ℤ}
 use lib.ListN.{getD}
 use Rattle.training_file.specs.declared.item.Item.{Item}
 use Rattle.training_file.specs.declared.item.Label.{Label}
@@ -15,6 +15,9 @@ use Rattle.smo.specs.declared.ending.Ending.{Ending}
 use Rattle.smo.specs.declared.ending.Ending.the-variants.{Converged, Stuck, Spent}
 use Rattle.smo.specs.declared.run.Trained.{Trained}
 use Rattle.text.specs.Decimal.{decimal, signedDecimal}
+use Rattle.lines.specs.declared.totals.Shown.{Shown}
+use Rattle.lines.specs.declared.totals.Totals.{Totals}
+use Rattle.lines.specs.Totals.{totals}
 
 -- `converged`, `stuck`, `spent`
 abbrev pub endingText : Ending → List ℕ
@@ -27,31 +30,50 @@ abbrev pub labelSign : Label → ℕ
 labelSign LookedUp = 43
 labelSign PassedOver = 45
 
+-- a space and a number
+abbrev pub field : ℕ → List ℕ
+field number = (32 ∷ []) ++ decimal number
+
+-- a space and a number that may be negative
+abbrev pub signedField : ℤ → List ℕ
+signedField number = (32 ∷ []) ++ signedDecimal number
+
+-- `refused` and `total`
+abbrev pub refusedText : List ℕ
+refusedText = 114 ∷ 101 ∷ 102 ∷ 117 ∷ 115 ∷ 101 ∷ 100 ∷ []
+
+abbrev pub totalText : List ℕ
+totalText = 116 ∷ 111 ∷ 116 ∷ 97 ∷ 108 ∷ []
+
 -- "`refused`, a space and the number"
 abbrev pub refusalLine : ℕ → List ℕ
-refusalLine number = (114 ∷ 101 ∷ 102 ∷ 117 ∷ 115 ∷ 101 ∷ 100 ∷ 32 ∷ []) ++ (decimal number ++ (10 ∷ []))
-
--- a space and a number
-abbrev pub field : ℤ → List ℕ
-field number = (32 ∷ []) ++ signedDecimal number
+refusalLine number = refusedText ++ (field number ++ (10 ∷ []))
 
 -- "Line one: ending, steps, b_low, b_up."
 unfoldable pub resultLine : Trained → List ℕ
-resultLine trained = endingText (trained .ending) ++ (field (pos (trained .steps)) ++ (field (trained .lower) ++ (field (trained .upper) ++ (10 ∷ []))))
+resultLine trained = endingText (trained .ending) ++ (field (trained .steps) ++ (signedField (trained .lower) ++ (signedField (trained .upper) ++ (10 ∷ []))))
 
 -- "Each further line: record number, label, multiplier"
-unfoldable pub itemLine : ℕ → Label → ℕ → List ℕ
-itemLine number label multiplier = decimal number ++ ((32 ∷ labelSign label ∷ 32 ∷ []) ++ (decimal multiplier ++ (10 ∷ [])))
+unfoldable pub itemLine : Shown → List ℕ
+itemLine shown = decimal (shown .number) ++ ((32 ∷ labelSign (shown .label) ∷ 32 ∷ []) ++ (decimal (shown .multiplier) ++ (10 ∷ [])))
+
+-- Document 02, request (l): "`total`, the count of multipliers above 0, the sum over label +1 and the sum over label −1"
+unfoldable pub totalLine : Totals → List ℕ
+totalLine totals = totalText ++ (field (totals .count) ++ (field (totals .plus) ++ (field (totals .minus) ++ (10 ∷ []))))
 
 -- the texts of the places below n, one after the other
 unfoldable pub joined : ℕ → (ℕ → List ℕ) → List ℕ
 joined zero text = []
 joined (suc n) text = joined n text ++ text n
 
--- the line of the item at a place of the chain
-abbrev pub lineAt : List ℕ → List Item → (ℕ → ℕ) → ℕ → List ℕ
-lineAt order items multiplier i = itemLine (getD order i 0) (itemIn items i .label) (multiplier i)
+-- the lines of the places below n, and after them the total of what they show
+abbrev pub itemsWithTotal : ℕ → (ℕ → Shown) → List ℕ
+itemsWithTotal n shown = joined n (λ i. itemLine (shown i)) ++ totalLine (totals n shown)
+
+-- what the line of the item at a place of the chain shows
+abbrev pub shownAt : List ℕ → List Item → (ℕ → ℕ) → ℕ → Shown
+shownAt order items multiplier i = record { number = getD order i 0; label = itemIn items i .label; multiplier = multiplier i }
 
 -- the same, in a file that was read, with a list of multipliers
-abbrev pub lineIn : List ℕ → List ℕ → ℕ → List ℕ
-lineIn file multipliers = lineAt (orderIn (reading file)) (itemsIn (reading file)) (at multipliers)
+abbrev pub shownIn : List ℕ → List ℕ → ℕ → Shown
+shownIn file multipliers = shownAt (orderIn (reading file)) (itemsIn (reading file)) (at multipliers)

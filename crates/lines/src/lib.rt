@@ -2,3 +2,4 @@
 // prints `training_file`, `reading`, `dual_problem` and `smo`.
 
 pub mod lines;
+pub mod totals;

@@ -5,7 +5,20 @@ ghost use Prim.Native.Nat.{_≤_};
 ghost use lib.ListN.{length};
 ghost use Rattle.dual_problem.specs.Items.{Listed};
 ghost use Rattle.text.specs.Put.{Put, Room};
-ghost use Rattle.lines.specs.Lines.{endingText, field, itemLine, joined, labelSign, lineIn, refusalLine, resultLine};
+ghost use Rattle.lines.specs.Lines.{
+  endingText,
+  field,
+  itemLine,
+  itemsWithTotal,
+  labelSign,
+  refusalLine,
+  resultLine,
+  shownIn,
+  signedField,
+  totalLine,
+};
+use super::totals::Shown;
+use super::totals::Totals;
 use reading::reader::fetch_label;
 use smo::ending::Ending;
 use smo::run::Trained;
@@ -16,14 +29,32 @@ use text::text::put_text;
 use training_file::item::Label;
 use training_file::refusal::Refusal;
 
+// A space and a number.
+fn put_field(out: &mut [u8], at: usize, number: u64) -> usize
+    requires { ⌜ Room (field number) at (now out) ⌝ }
+    ensures { λ r. ⌜ Put (field number) at (now (out .entry)) (now (out .exit)) r ⌝ }
+{
+    let after_space = put_byte(out, at, b' ');
+    put_number(out, after_space, number)
+}
+
+// A space and a number that may be negative.
+fn put_signed_field(out: &mut [u8], at: usize, number: i64) -> usize
+    requires { ⌜ Room (signedField number) at (now out) ⌝ }
+    ensures { λ r. ⌜ Put (signedField number) at (now (out .entry)) (now (out .exit)) r ⌝ }
+{
+    let after_space = put_byte(out, at, b' ');
+    put_signed(out, after_space, number)
+}
+
 // A refusal is the whole listing: its number alone.
 pub fn put_refusal(out: &mut [u8], at: usize, refusal: Refusal) -> usize
     requires { ⌜ Room (refusalLine (refusal .number)) at (now out) ⌝ }
     ensures { λ r. ⌜ Put (refusalLine (refusal .number)) at (now (out .entry)) (now (out .exit)) r ⌝ }
 {
-    let after_word = put_text(out, at, b"refused ");
-    let after_number = put_number(out, after_word, refusal.number as u64);
-    put_byte(out, after_number, b'\n')
+    let after_word = put_text(out, at, b"refused");
+    let after_number = put_field(out, after_word, refusal.number as u64);
+    put_text(out, after_number, b"\n")
 }
 
 // Why training ended, in lower case letters.
@@ -38,15 +69,6 @@ fn put_ending(out: &mut [u8], at: usize, ending: Ending) -> usize
     }
 }
 
-// A space and a number.
-fn put_field(out: &mut [u8], at: usize, number: i64) -> usize
-    requires { ⌜ Room (field number) at (now out) ⌝ }
-    ensures { λ r. ⌜ Put (field number) at (now (out .entry)) (now (out .exit)) r ⌝ }
-{
-    let after_space = put_byte(out, at, b' ');
-    put_signed(out, after_space, number)
-}
-
 // Line one: the ending, the steps, b_low and b_up.
 pub fn put_result(out: &mut [u8], at: usize, trained: Trained) -> usize
     requires { ⌜ Room (resultLine trained) at (now out) ⌝ }
@@ -54,10 +76,10 @@ pub fn put_result(out: &mut [u8], at: usize, trained: Trained) -> usize
 {
     let ending = trained.ending;
     let after_ending = put_ending(out, at, ending);
-    let after_steps = put_field(out, after_ending, trained.steps as i64);
-    let after_lower = put_field(out, after_steps, trained.lower);
-    let after_upper = put_field(out, after_lower, trained.upper);
-    put_byte(out, after_upper, b'\n')
+    let after_steps = put_field(out, after_ending, trained.steps as u64);
+    let after_lower = put_signed_field(out, after_steps, trained.lower);
+    let after_upper = put_signed_field(out, after_lower, trained.upper);
+    put_text(out, after_upper, b"\n")
 }
 
 // The label's sign between two spaces.
@@ -72,17 +94,30 @@ fn put_label(out: &mut [u8], at: usize, label: Label) -> usize
 }
 
 // The line of an item: its record number, its label and its multiplier.
-fn put_item(out: &mut [u8], at: usize, number: u16, label: Label, multiplier: u32) -> usize
-    requires { ⌜ Room (itemLine number label multiplier) at (now out) ⌝ }
-    ensures { λ r. ⌜ Put (itemLine number label multiplier) at (now (out .entry)) (now (out .exit)) r ⌝ }
+fn put_item(out: &mut [u8], at: usize, shown: Shown) -> usize
+    requires { ⌜ Room (itemLine shown) at (now out) ⌝ }
+    ensures { λ r. ⌜ Put (itemLine shown) at (now (out .entry)) (now (out .exit)) r ⌝ }
 {
-    let after_number = put_number(out, at, number as u64);
+    let label = shown.label;
+    let after_number = put_number(out, at, shown.number as u64);
     let after_label = put_label(out, after_number, label);
-    let after_multiplier = put_number(out, after_label, multiplier as u64);
-    put_byte(out, after_multiplier, b'\n')
+    let after_multiplier = put_number(out, after_label, shown.multiplier as u64);
+    put_text(out, after_multiplier, b"\n")
 }
 
-// A line for each item, in chain order.
+// The last line: how many multipliers are above 0, and their sums over label +1 and over label -1.
+fn put_total(out: &mut [u8], at: usize, totals: Totals) -> usize
+    requires { ⌜ Room (totalLine totals) at (now out) ⌝ }
+    ensures { λ r. ⌜ Put (totalLine totals) at (now (out .entry)) (now (out .exit)) r ⌝ }
+{
+    let after_word = put_text(out, at, b"total");
+    let after_count = put_field(out, after_word, totals.count);
+    let after_plus = put_field(out, after_count, totals.plus);
+    let after_minus = put_field(out, after_plus, totals.minus);
+    put_text(out, after_minus, b"\n")
+}
+
+// A line for each item, in chain order, and the totals of these lines: each line's numbers are added as the line is put.
 pub fn put_items(
     file: &[u8],
     order: &[u16],
@@ -92,15 +127,22 @@ pub fn put_items(
     at: usize,
 ) -> usize
     requires { ⌜ Listed (now file) (now order) count × (count ≤ length (now multipliers))
-        × Room (joined count (lineIn (now file) (now multipliers))) at (now out) ⌝ }
-    ensures { λ r. ⌜ Put (joined count (lineIn (now (file .entry)) (now (multipliers .entry)))) at (now (out .entry)) (now (out .exit)) r ⌝ }
+        × Room (itemsWithTotal count (shownIn (now file) (now multipliers))) at (now out) ⌝ }
+    ensures { λ r. ⌜ Put (itemsWithTotal count (shownIn (now (file .entry)) (now (multipliers .entry)))) at (now (out .entry)) (now (out .exit)) r ⌝ }
 {
+    let mut totals = Totals::NONE;
     let mut end = at;
     let mut i = 0;
     while i < count {
         let label = fetch_label(file, order, i);
-        end = put_item(out, end, order[i], label, multipliers[i]);
+        let shown = Shown {
+            number: order[i],
+            label,
+            multiplier: multipliers[i],
+        };
+        end = put_item(out, end, shown);
+        totals = totals.and(Totals::of_line(shown));
         i += 1;
     }
-    end
+    put_total(out, end, totals)
 }

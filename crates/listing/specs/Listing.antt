@@ -1,5 +1,5 @@
--- The listing that the training program prints (document 01, last part of "Settled examples"), as a list of bytes, of the lines that the
--- crate `lines` defines. Laws are in Listing/Laws.antt, and the document's own example is in Listing/Examples.antt. Assumes nothing.
+-- The listing that the training program prints (document 01, last part of "Settled examples", and document 02, request (l)), as a list of
+-- bytes, of the lines that the crate `lines` defines. Laws are in Listing/Laws.antt, and the document's own example is in Listing/Examples.antt. Assumes nothing.
 pub mod Laws
 pub mod Examples
 use mathlib.Core.List.{List, [], _++_}
@@ -17,17 +17,18 @@ use Rattle.smo.specs.Run.{training}
 use Rattle.smo.specs.Answer.{trainedOf}
 use Rattle.training.specs.declared.train.Training.{Training}
 use Rattle.training.specs.declared.train.Training.the-variants.{Refused, Ended}
-use Rattle.lines.specs.Lines.{joined, lineAt, refusalLine, resultLine}
+use Rattle.lines.specs.Lines.{itemsWithTotal, refusalLine, resultLine, shownAt}
 
 -- how many items what a file is read as has
 abbrev pub itemCount : FileAnswer → ℕ
 itemCount (reader.Refused why) = 0
 itemCount (reader.Accepted parameters count) = count
 
--- what an answer of training prints, with the record numbers and the items in chain order and the multiplier of each
+-- what an answer of training prints, with the record numbers and the items in chain order and the multiplier of each: a refusal its line
+-- alone, an ending the result line, the item lines and their total
 unfoldable pub listing : Training → List ℕ → List Item → (ℕ → ℕ) → List ℕ
 listing (Refused why) order items multiplier = refusalLine (why .number)
-listing (Ended trained) order items multiplier = resultLine trained ++ joined (length items) (lineAt order items multiplier)
+listing (Ended trained) order items multiplier = resultLine trained ++ itemsWithTotal (length items) (shownAt order items multiplier)
 
 -- the same, in a file that was read, with a list of multipliers
 abbrev pub listingIn : Training → List ℕ → List ℕ → List ℕ

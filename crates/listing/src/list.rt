@@ -28,7 +28,7 @@ fn item_count(answer: FileAnswer) -> usize
     }
 }
 
-// The result line and a line for each item, in chain order.
+// The result line, a line for each item, in chain order, and their total.
 fn put_trained(file: &[u8], trained: Trained, multipliers: &[u32], out: &mut [u8]) -> usize
     requires { ⌜ (length (itemsIn (reading (now file))) ≤ length (now multipliers))
         × Room (listingIn (Training.Ended trained) (now file) (now multipliers)) 0 (now out) ⌝ }
@@ -52,7 +52,7 @@ fn put_training(file: &[u8], training: Training, multipliers: &[u32], out: &mut 
     }
 }
 
-// No listing is longer: line one has at most 76 bytes, and each of at most 256 items adds at most 14.
+// No listing is longer: line one has at most 75 bytes, each of at most 256 items adds at most 14, and the total at most 69.
 pub const PLACES: usize = 4_096;
 
 // Reads and trains any file, and writes its listing into the buffer's first places; later places keep theirs.

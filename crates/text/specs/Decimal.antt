@@ -1,8 +1,8 @@
--- Numbers in decimal, without leading zeros, as a list of bytes. Laws are in Decimal/Laws.antt. Assumes nothing.
+-- Numbers in decimal, without leading zeros, as a list of bytes, and the number that such bytes say. Laws are in Decimal/Laws.antt. Assumes nothing.
 pub mod Laws
 use mathlib.Core.Bool.{cond}
 use mathlib.Core.List.{List, [], _∷_, _++_}
-use Prim.Native.Nat.{ℕ, zero, suc, _+_, _/_, _%_}
+use Prim.Native.Nat.{ℕ, zero, suc, _+_, _-_, _*_, _/_, _%_}
 use lib.Dec.{ltb}
 use lib.IntN.{ℤ, pos, negsuc}
 
@@ -19,3 +19,8 @@ decimal number = digits 20 number
 unfoldable pub signedDecimal : ℤ → List ℕ
 signedDecimal (pos number) = decimal number
 signedDecimal (negsuc number) = 45 ∷ decimal (suc number)
+
+-- the number that digits say, after those that said `so-far`
+unfoldable pub value : ℕ → List ℕ → ℕ
+value so-far [] = so-far
+value so-far (digit ∷ more) = value (so-far * 10 + (digit - 48)) more

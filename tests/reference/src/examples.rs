@@ -1,4 +1,4 @@
-//! The files of document 01's settled examples, and two at the ends of what a
+//! The files of document 01's settled examples, and three at the ends of what a
 //! training can be.
 
 use crate::file::{MOST_RECORDS, RECORD_BYTES};
@@ -123,12 +123,28 @@ pub fn long_run() -> Draft {
     }
 }
 
+/// n items, + and − by turns, with one feature each.
+pub fn by_turns(n: usize, feature: impl Fn(usize) -> i8) -> Vec<(u8, Vec<i8>)> {
+    let label = |k| if k % 2 == 0 { LOOKED_UP } else { PASSED_OVER };
+    (0..n).map(|k| (label(k), vec![feature(k)])).collect()
+}
+
+/// The largest totals that there are, and the longest item lines: with items all
+/// alike, half of them of each label, every multiplier goes to the greatest
+/// ceiling, a pair at a step.
+pub fn largest_totals() -> Draft {
+    Draft {
+        items: by_turns(MOST_RECORDS, |_| 1),
+        budget: MOST_RECORDS as u32 / 2,
+        ..plus_minus_one(10, 65_536, 0)
+    }
+}
+
 /// As many records as can be, all chained; the last leads to the record given
 /// instead of ending the chain.
 pub fn full_chain(last_next: u16) -> Vec<u8> {
-    let item = |k: usize| (if k % 2 == 0 { LOOKED_UP } else { PASSED_OVER }, vec![1]);
     let mut file = Draft {
-        items: (0..MOST_RECORDS).map(item).collect(),
+        items: by_turns(MOST_RECORDS, |_| 1),
         ..p1()
     }
     .plain();

@@ -1,15 +1,15 @@
-//! What the training program prints: document 01, end of "Settled examples".
+//! What the training program prints: document 01, end of "Settled examples", and document 02, request (l).
 
 use crate::file::{read, Item, Label, MOST_RECORDS};
 use crate::training::{train, Ending, Trained};
 
-/// `refused N`, or the result line and one line per item in chain order.
+/// `refused N`, or the result line, one line per item in chain order and the totals of these.
 pub fn listing(file: &[u8]) -> String {
     let mut multipliers = [0; MOST_RECORDS];
     let mut gradient = [0; MOST_RECORDS];
     match train(file, &mut multipliers, &mut gradient) {
         Err(number) => format!("refused {number}\n"),
-        Ok(trained) => result_line(trained) + &item_lines(file, &multipliers),
+        Ok(trained) => result_line(trained) + &item_lines_and_total(file, &multipliers),
     }
 }
 
@@ -26,15 +26,17 @@ fn result_line(trained: Trained) -> String {
     )
 }
 
-/// "Each further line: record number, label, multiplier, in chain order."
-fn item_lines(file: &[u8], multipliers: &[u32]) -> String {
+/// "Each further line: record number, label, multiplier, in chain order." "After
+/// its item lines the training program prints `total` ..."
+fn item_lines_and_total(file: &[u8], multipliers: &[u32]) -> String {
     let problem = read(file).expect("a trained file is accepted");
-    problem
+    let shown: Vec<(&Item, u32)> = problem
         .items
         .iter()
-        .zip(multipliers)
-        .map(|(item, &a)| item_line(item, a))
-        .collect()
+        .zip(multipliers.iter().copied())
+        .collect();
+    let lines: String = shown.iter().map(|&(item, a)| item_line(item, a)).collect();
+    lines + &total_line(&shown)
 }
 
 fn item_line(item: &Item, multiplier: u32) -> String {
@@ -43,4 +45,23 @@ fn item_line(item: &Item, multiplier: u32) -> String {
         Label::PassedOver => '-',
     };
     format!("{} {label} {multiplier}\n", item.record)
+}
+
+/// "... `total`, the count of multipliers above 0, the sum over label +1 and the
+/// sum over label −1."
+fn total_line(shown: &[(&Item, u32)]) -> String {
+    let above_zero = shown.iter().filter(|(_, multiplier)| *multiplier > 0);
+    let sum = |label: Label| -> u64 {
+        shown
+            .iter()
+            .filter(|(item, _)| item.label == label)
+            .map(|(_, multiplier)| u64::from(*multiplier))
+            .sum()
+    };
+    format!(
+        "total {} {} {}\n",
+        above_zero.count(),
+        sum(Label::LookedUp),
+        sum(Label::PassedOver)
+    )
 }

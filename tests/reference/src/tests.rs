@@ -150,8 +150,60 @@ fn mirrors_reflect() {
 
 #[test]
 fn the_example_prints_as_settled() {
-    assert_eq!(listing(&three_records()), "converged 1 0 0\n3 + 5\n1 - 5\n");
+    assert_eq!(
+        listing(&three_records()),
+        "converged 1 0 0\n3 + 5\n1 - 5\ntotal 2 5 5\n"
+    );
+    assert_eq!(
+        listing(&p3().plain()),
+        "stuck 0 1 -1\n1 + 0\n2 - 0\ntotal 0 0 0\n"
+    );
+    assert_eq!(
+        listing(&p6().plain()),
+        "spent 0 10 -10\n1 + 0\n2 - 0\ntotal 0 0 0\n"
+    );
+    assert_eq!(
+        listing(&p9().plain()),
+        "converged 1 1 1\n1 + 2\n2 - 0\n3 - 2\ntotal 2 2 2\n"
+    );
     assert_eq!(listing(&[]), "refused 1\n");
+}
+
+#[test]
+fn the_largest_totals() {
+    let printed = listing(&largest_totals().plain());
+    assert!(printed.starts_with("converged 128 -10 10\n1 + 65536\n2 - 65536\n"));
+    assert!(printed.ends_with("\n256 - 65536\ntotal 256 8388608 8388608\n"));
+}
+
+/// "These are the sums of the printed lines, and the two sums are equal for any
+/// ending": added up from what is printed alone.
+fn assert_adds_up(printed: &str) {
+    let lines: Vec<&str> = printed.lines().collect();
+    let (total, rest) = lines.split_last().expect("a total");
+    let items = rest[1..].iter().map(|line| line.split(' ').collect());
+    let items: Vec<Vec<&str>> = items.collect();
+    let multiplier = |line: &Vec<&str>| line[2].parse::<u64>().expect("a number");
+    let sum = |label| -> u64 {
+        let labelled = items.iter().filter(|line| line[1] == label);
+        labelled.map(multiplier).sum()
+    };
+    let above_zero = items.iter().filter(|line| multiplier(line) > 0).count();
+    let [plus, minus] = ["+", "-"].map(sum);
+    assert_eq!(*total, format!("total {above_zero} {plus} {minus}"));
+    assert_eq!(plus, minus);
+}
+
+#[test]
+fn a_listing_adds_up_and_a_refusal_is_one_line() {
+    for number in 0..300 {
+        let file = any_file(&mut Random::numbered(1, number));
+        let printed = listing(&file);
+        match read(&file) {
+            Ok(_) => assert_adds_up(&printed),
+            Err(refusal) => assert_eq!(printed, format!("refused {refusal}\n")),
+        }
+    }
 }
 
 #[test]
@@ -197,22 +249,12 @@ fn files_of_31_and_32_bytes() {
     assert_eq!(read(&empty[..31]).err(), Some(1));
 }
 
-/// n items, + and − by turns, with features from a small range.
-fn alternating(n: usize) -> Draft {
-    let item = |i: usize| {
-        (
-            if i % 2 == 0 { LOOKED_UP } else { PASSED_OVER },
-            vec![(i % 7) as i8 - 3],
-        )
-    };
-    Draft {
-        items: (0..n).map(item).collect(),
-        ..p1()
-    }
-}
-
 #[test]
 fn records_256_and_257() {
+    let alternating = |n| Draft {
+        items: by_turns(n, |i| (i % 7) as i8 - 3),
+        ..p1()
+    };
     let most = alternating(MOST_RECORDS);
     assert_eq!(trained(&most).1.len(), MOST_RECORDS);
     assert_eq!(read(&alternating(MOST_RECORDS + 1).plain()).err(), Some(1));

@@ -5,21 +5,26 @@ use mathlib.Core.Logic.{⊎-elim}
 use Prim.Native.Nat.{ℕ, zero, suc, _*_, _≤_, _<_}
 use native.Mathlib.Nat.{le-refl, le-of-suc-le-suc, eq-or-lt-of-le}
 use native.Mathlib.Omega.{arith}
-use lib.IntN.{pos}
 use lib.ListN.{length, length-append}
-use Rattle.training_file.specs.declared.item.Label.{Label}
 use Rattle.smo.specs.declared.ending.Ending.{Ending}
 use Rattle.smo.specs.declared.ending.Ending.the-variants.{Converged, Stuck, Spent}
 use Rattle.smo.specs.declared.run.Trained.{Trained}
 use Rattle.text.specs.Decimal.{decimal}
-use Rattle.text.specs.Decimal.Laws.{decimal-few, signed-length}
-use Rattle.lines.specs.Lines.{endingText, itemLine, joined, labelSign, resultLine}
+use Rattle.text.specs.Decimal.Laws.{decimal-few, decimal-length, signed-length}
+use Rattle.lines.specs.declared.totals.Shown.{Shown}
+use Rattle.lines.specs.declared.totals.Totals.{Totals}
+use Rattle.lines.specs.Totals.Laws.{totals-cong}
+use Rattle.lines.specs.Lines.{endingText, itemLine, itemsWithTotal, joined, labelSign, resultLine, totalLine}
 
 -- ---- texts one after the other
-pub joined-cong : (n : ℕ) (f g : ℕ → List ℕ) → ((i : ℕ) → i < n → f i ≡ g i) → joined n f ≡ joined n g
+joined-cong : (n : ℕ) (f g : ℕ → List ℕ) → ((i : ℕ) → i < n → f i ≡ g i) → joined n f ≡ joined n g
 unfolding joined
 joined-cong zero f g h = refl
 joined-cong (suc n) f g h = λ k. joined-cong n f g (λ i l. h i (omega arith)) k ++ h n (le-refl (suc n)) k
+
+-- lines that show the same are the same, and so is their total
+pub items-cong : (n : ℕ) (f g : ℕ → Shown) → ((i : ℕ) → i < n → f i ≡ g i) → itemsWithTotal n f ≡ itemsWithTotal n g
+items-cong n f g h = λ k. joined-cong n (λ i. itemLine (f i)) (λ i. itemLine (g i)) (λ i l. ap itemLine (h i l)) k ++ totalLine (totals-cong n f g h k)
 
 pub joined-rises : (n m : ℕ) (f : ℕ → List ℕ) → n ≤ m → length (joined n f) ≤ length (joined m f)
 unfolding joined
@@ -34,16 +39,20 @@ joined-length zero f h = omega arith
 joined-length (suc n) f {most} h = omega (arith, length-append (joined n f) (f n), joined-length n f (λ i l. h i (omega arith)), h n (le-refl (suc n)))
 
 -- ---- how long a line is at most
-pub item-length : (number : ℕ) (label : Label) (multiplier : ℕ) → number < 100000 → multiplier < 100000 → length (itemLine number label multiplier) ≤ 14
+pub item-length : (shown : Shown) → shown .number < 100000 → shown .multiplier < 100000 → length (itemLine shown) ≤ 14
 unfolding itemLine
-item-length number label multiplier h k =
-    omega (arith, length-append (decimal number) ((32 ∷ labelSign label ∷ 32 ∷ []) ++ (decimal multiplier ++ (10 ∷ []))), length-append (decimal multiplier) (10 ∷ []), decimal-few number h, decimal-few multiplier k)
+item-length shown h k =
+    omega (arith, length-append (decimal (shown .number)) ((32 ∷ labelSign (shown .label) ∷ 32 ∷ []) ++ (decimal (shown .multiplier) ++ (10 ∷ []))), length-append (decimal (shown .multiplier)) (10 ∷ []), decimal-few (shown .number) h, decimal-few (shown .multiplier) k)
 
 ending-length : (ending : Ending) → length (endingText ending) ≤ 9
 ending-length Converged = omega arith
 ending-length Stuck = omega arith
 ending-length Spent = omega arith
 
-pub result-length : (trained : Trained) → length (resultLine trained) ≤ 76
+pub result-length : (trained : Trained) → length (resultLine trained) ≤ 75
 unfolding resultLine
-result-length trained = simp length-append (omega (arith, ending-length (trained .ending), signed-length (pos (trained .steps)), signed-length (trained .lower), signed-length (trained .upper)))
+result-length trained = simp length-append (omega (arith, ending-length (trained .ending), decimal-length (trained .steps), signed-length (trained .lower), signed-length (trained .upper)))
+
+pub total-length : (totals : Totals) → length (totalLine totals) ≤ 69
+unfolding totalLine
+total-length totals = simp length-append (omega (arith, decimal-length (totals .count), decimal-length (totals .plus), decimal-length (totals .minus)))

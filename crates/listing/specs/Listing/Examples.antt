@@ -1,23 +1,43 @@
--- Document 01's example of three records, given what training answers. Assumes nothing.
+-- Document 01's example of three records and P9, given what training answers, and how such lines read back. Assumes nothing.
 use mathlib.Core.Path.{_≡_, refl}
-use mathlib.Core.List.{[], _∷_, _++_}
+use mathlib.Core.List.{List, [], _∷_, _++_}
+use Prim.Native.Nat.{ℕ}
 use lib.IntN.{pos, negsuc}
 use Rattle.training_file.specs.declared.item.Label.the-variants.{LookedUp, PassedOver}
 use Rattle.training_file.specs.Refusal.{refusal}
 use Rattle.dual_problem.specs.Items.{at}
 use Rattle.smo.specs.declared.ending.Ending.the-variants.{Converged}
 use Rattle.training.specs.declared.train.Training.the-variants.{Refused, Ended}
-use Rattle.text.specs.Decimal.{digits, decimal, signedDecimal}
-use Rattle.lines.specs.Lines.{itemLine, joined, resultLine}
+use Rattle.text.specs.Decimal.{digits, decimal, signedDecimal, value}
+use Rattle.text.specs.Parts.{before, parts}
+use Rattle.lines.specs.Totals.{countAboveZero, sumOver}
+use Rattle.lines.specs.Lines.{itemLine, joined, resultLine, totalLine}
+use Rattle.lines.specs.Sheet.{countRead, sumRead}
 use Rattle.listing.specs.Listing.{listing}
 
--- `converged 1 0 0`, `3 + 5`, `1 - 5`
+-- `converged 1 0 0`, `3 + 5`, `1 - 5` and, of document 02, request (l), `total 2 5 5`
 three-records : listing (Ended (record { ending = Converged; steps = 1; lower = pos 0; upper = pos 0 })) (3 ∷ 1 ∷ [])
     (record { label = LookedUp; features = pos 1 ∷ [] } ∷ record { label = PassedOver; features = negsuc 0 ∷ [] } ∷ []) (at (5 ∷ 5 ∷ []))
     ≡ (99 ∷ 111 ∷ 110 ∷ 118 ∷ 101 ∷ 114 ∷ 103 ∷ 101 ∷ 100 ∷ 32 ∷ 49 ∷ 32 ∷ 48 ∷ 32 ∷ 48 ∷ 10 ∷ [])
-    ++ ((51 ∷ 32 ∷ 43 ∷ 32 ∷ 53 ∷ 10 ∷ []) ++ (49 ∷ 32 ∷ 45 ∷ 32 ∷ 53 ∷ 10 ∷ []))
-unfolding digits decimal signedDecimal resultLine itemLine joined listing
+    ++ ((51 ∷ 32 ∷ 43 ∷ 32 ∷ 53 ∷ 10 ∷ []) ++ ((49 ∷ 32 ∷ 45 ∷ 32 ∷ 53 ∷ 10 ∷ []) ++ (116 ∷ 111 ∷ 116 ∷ 97 ∷ 108 ∷ 32 ∷ 50 ∷ 32 ∷ 53 ∷ 32 ∷ 53 ∷ 10 ∷ [])))
+unfolding digits decimal signedDecimal countAboveZero sumOver resultLine itemLine totalLine joined listing
 three-records = refl
+
+-- P9, with a multiplier of 0, which isn't counted: `converged 1 1 1`, `1 + 2`, `2 - 0`, `3 - 2`, `total 2 2 2`
+p9-listing : listing (Ended (record { ending = Converged; steps = 1; lower = pos 1; upper = pos 1 })) (1 ∷ 2 ∷ 3 ∷ [])
+    (record { label = LookedUp; features = pos 10 ∷ [] } ∷ record { label = PassedOver; features = negsuc 9 ∷ [] } ∷ record { label = PassedOver; features = pos 10 ∷ [] } ∷ []) (at (2 ∷ 0 ∷ 2 ∷ []))
+    ≡ (99 ∷ 111 ∷ 110 ∷ 118 ∷ 101 ∷ 114 ∷ 103 ∷ 101 ∷ 100 ∷ 32 ∷ 49 ∷ 32 ∷ 49 ∷ 32 ∷ 49 ∷ 10 ∷ [])
+    ++ ((49 ∷ 32 ∷ 43 ∷ 32 ∷ 50 ∷ 10 ∷ []) ++ ((50 ∷ 32 ∷ 45 ∷ 32 ∷ 48 ∷ 10 ∷ []) ++ ((51 ∷ 32 ∷ 45 ∷ 32 ∷ 50 ∷ 10 ∷ []) ++ (116 ∷ 111 ∷ 116 ∷ 97 ∷ 108 ∷ 32 ∷ 50 ∷ 32 ∷ 50 ∷ 32 ∷ 50 ∷ 10 ∷ []))))
+unfolding digits decimal signedDecimal countAboveZero sumOver resultLine itemLine totalLine joined listing
+p9-listing = refl
+
+-- its item lines read back: two multipliers above 0, the sums 2 and 2
+unfoldable p9-lines : List (List ℕ)
+p9-lines = (49 ∷ 32 ∷ 43 ∷ 32 ∷ 50 ∷ []) ∷ (50 ∷ 32 ∷ 45 ∷ 32 ∷ 48 ∷ []) ∷ (51 ∷ 32 ∷ 45 ∷ 32 ∷ 50 ∷ []) ∷ []
+
+p9-read : (countRead p9-lines ≡ 2) × (sumRead 43 p9-lines ≡ 2) × (sumRead 45 p9-lines ≡ 2)
+unfolding value before parts countRead sumRead p9-lines
+p9-read = (refl, refl, refl)
 
 -- `refused 3`
 a-refusal : listing (Refused (refusal 3)) [] [] (at []) ≡ 114 ∷ 101 ∷ 102 ∷ 117 ∷ 115 ∷ 101 ∷ 100 ∷ 32 ∷ 51 ∷ 10 ∷ []

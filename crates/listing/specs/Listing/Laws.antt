@@ -1,9 +1,9 @@
--- Laws of the listing. Assumes nothing.
+-- Laws of the listing. That its totals add up is in Laws/Sheet.antt. Assumes nothing.
+pub mod Sheet
 use mathlib.Core.Bool.{true, cond, _&&_}
 use mathlib.Core.Path.{_≡_, refl, sym, _∙_, ap}
 use mathlib.Core.List.{List, _++_}
 use Prim.Native.Nat.{ℕ, _≤_, _<_}
-use native.Mathlib.Nat.{le-refl}
 use native.Mathlib.Omega.{arith}
 use borrow.Author.Tests.{le-leb}
 use lib.Dec.{leb}
@@ -19,16 +19,16 @@ use Rattle.reading.specs.Reading.Laws.{accepted-is}
 use Rattle.reading.specs.Calls.{itemIn, itemsIn, orderIn, fileAnswer, tableAfter}
 use Rattle.reading.specs.Reading.Laws.Accepted.{accepted-ranges, items-counted, items-most, numbers-within}
 use Rattle.dual_problem.specs.Problem.{problem}
-use Rattle.dual_problem.specs.Problem.Laws.{problem-gram}
 use Rattle.dual_problem.specs.Items.{Listed, at}
-use Rattle.dual_problem.specs.Items.Laws.Read.{Read, labels-present, read-listed}
+use Rattle.dual_problem.specs.Items.Laws.Read.{Read, read-listed}
 use Rattle.smo.specs.Run.{training}
-use Rattle.smo.specs.Run.Laws.{training-sound}
 use Rattle.smo.specs.Answer.{trainedOf}
 use Rattle.training.specs.Train.{endedWith, unchanged, trainRead}
+use Rattle.training.specs.Train.Laws.{accepted-sound}
 use Rattle.text.specs.Decimal.Laws.{decimal-length}
-use Rattle.lines.specs.Lines.{itemLine, joined, lineAt, resultLine}
-use Rattle.lines.specs.Lines.Laws.{item-length, joined-cong, joined-length, result-length}
+use Rattle.lines.specs.Totals.{totals}
+use Rattle.lines.specs.Lines.{itemLine, itemsWithTotal, joined, resultLine, shownAt, totalLine}
+use Rattle.lines.specs.Lines.Laws.{item-length, items-cong, joined-length, result-length, total-length}
 use Rattle.listing.specs.Listing.{itemCount, listing, listingOf}
 
 -- ---- the table that the code reads serves, and its count is that of the items
@@ -68,8 +68,8 @@ listing-trained (accepted p order items) a g h k =
     let e : leb (length items) (length a) && leb (length items) (length g) ≡ true = &&-true (le-leb _ _ h) (le-leb _ _ k) in
     (λ t. let left = cond (e t) (endedWith P o a g) (unchanged (refusal 6) a g) in listing (left .answer) order items (at (left .multipliers)))
     ∙ ap (λ lines. resultLine (trainedOf P o) ++ lines)
-    (joined-cong (length items) (lineAt order items (at (written (length items) (at (o .multipliers)) a))) (lineAt order items (at (o .multipliers)))
-    (λ i l. ap (itemLine (getD order i 0) (itemIn items i .label)) (written-at (length items) (at (o .multipliers)) a 0 h i l)))
+    (items-cong (length items) (shownAt order items (at (written (length items) (at (o .multipliers)) a))) (shownAt order items (at (o .multipliers)))
+    (λ i l. ap (λ multiplier. record { number = getD order i 0; label = itemIn items i .label; multiplier = multiplier }) (written-at (length items) (at (o .multipliers)) a 0 h i l)))
 
 -- ---- no listing is longer than 4,096 bytes
 pub listing-fits : (file : List ℕ) → length (listingOf (reading file)) ≤ 4096
@@ -82,12 +82,13 @@ listing-fits file = by (reading file) refl
         let a = accepted-is file p order items e in
         let P = problem p items in
         let o = training P (p .tolerance) (p .budget) in
-        let sound = training-sound P (problem-gram p items) (labels-present file p order items e) (p .tolerance) (p .budget) (p .ceiling) (λ i l. le-refl (p .ceiling)) in
-        let line : (i : ℕ) → i < length items → length (lineAt order items (at (o .multipliers)) i) ≤ 14 =
-        λ i l. item-length (getD order i 0) (itemIn items i .label) (at (o .multipliers) i)
+        let sound = accepted-sound file p order items e in
+        let shown = shownAt order items (at (o .multipliers)) in
+        let line : (i : ℕ) → i < length items → length (itemLine (shown i)) ≤ 14 =
+        λ i l. item-length (shown i)
         (omega (arith, numbers-within file p order items a i (omega (arith, items-counted file p order items a)) .1))
         (omega (arith, sound .bounded .feasible .within i l, accepted-ranges file p order items a .ceiling-greatest)) in
-        omega (arith, length-append (resultLine (trainedOf P o)) (joined (length items) (lineAt order items (at (o .multipliers)))), result-length (trainedOf P o), joined-length (length items) (lineAt order items (at (o .multipliers))) line, items-most file p order items a)
+        omega (arith, length-append (resultLine (trainedOf P o)) (itemsWithTotal (length items) shown), result-length (trainedOf P o), length-append (joined (length items) (λ i. itemLine (shown i))) (totalLine (totals (length items) shown)), joined-length (length items) (λ i. itemLine (shown i)) line, items-most file p order items a, total-length (totals (length items) shown))
 
 -- a buffer that starts with a listing holds it whole
 pub listing-within : (file out after : List ℕ) (r : ℕ) → (r ≡ length (listingOf (reading file))) × (after ≡ listingOf (reading file) ++ drop r out) → r ≤ length after

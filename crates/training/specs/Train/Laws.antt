@@ -27,6 +27,7 @@ use Rattle.dual_problem.specs.Problem.Laws.Zeros.{zeros-feasible}
 use Rattle.dual_problem.specs.Items.{at, problemOf}
 use Rattle.dual_problem.specs.Items.Laws.Read.{Read, labels-present}
 use Rattle.smo.specs.Run.{run, training}
+use Rattle.smo.specs.Run.Meaning.{Sound}
 use Rattle.smo.specs.Run.Laws.{zeros, zeros-length, training-length, training-sound}
 use Rattle.smo.specs.Run.Laws.Append.{run-append}
 use Rattle.smo.specs.Answer.{trainedOf}
@@ -79,6 +80,12 @@ module _ (P : Problem) (l : List ℕ) (long : P .count ≤ length l) where
         ∙ ap (λ n. take n (training P t budget .multipliers ++ drop (P .count) l)) (sym (training-length P t budget)) ∙ take-append-seam (training P t budget .multipliers) (drop (P .count) l)
 
 -- ---- demand 3
+-- what training leaves, for a file that is accepted
+pub accepted-sound : (file : List ℕ) (p : Parameters) (order : List ℕ) (items : List Item) → reading file ≡ accepted p order items
+    → Sound (problem p items) (p .tolerance) (p .budget) (p .ceiling) (training (problem p items) (p .tolerance) (p .budget))
+accepted-sound file p order items e =
+    training-sound (problem p items) (problem-gram p items) (labels-present file p order items e) (p .tolerance) (p .budget) (p .ceiling) (λ i l. le-refl (p .ceiling))
+
 pub training-quality : (file a : List ℕ) (g : List ℤ) → TrainingQuality (reading file) (trainFile file a g .answer) (trainFile file a g .multipliers)
 training-quality file a g = by-reading (reading file) refl
   where
@@ -89,7 +96,7 @@ training-quality file a g = by-reading (reading file) refl
     by p order items r false e = tt
     by p order items r true e =
         let P = problem p items in
-        let s = training-sound P (problem-gram p items) (labels-present file p order items r) (p .tolerance) (p .budget) (p .ceiling) (λ i l. le-refl (p .ceiling)) in
+        let s = accepted-sound file p order items r in
         let long : length items ≤ length a = leb-true (length items) (length a) (&&-left (leb (length items) (length a)) (leb (length items) (length g)) e) in
         subst (ResultQuality p P (trainedOf P (training P (p .tolerance) (p .budget)))) (sym (left-front P a long (p .tolerance) (p .budget)))
         (record {

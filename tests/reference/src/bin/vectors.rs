@@ -6,7 +6,7 @@
 //! from 1, and then what the training program prints for it. `K.log` is the file
 //! alone. The last file takes 70,880 steps; all others together take a few thousand.
 
-use reference::examples::{full_chain, long_run, run_only, settled, three_records};
+use reference::examples::{full_chain, largest_totals, long_run, run_only, settled, three_records};
 use reference::generate::{causes, damaged, noise, sound, sound_with, Random};
 use reference::{file, listing, run};
 use std::collections::BTreeMap;
@@ -51,6 +51,7 @@ fn files() -> Vec<Vec<u8>> {
     }
     files.extend((0..NOISE).map(|_| noise(random)));
     files.extend([0, 1, 256, 257].map(full_chain));
+    files.push(largest_totals().plain());
     files.push(long_run().plain());
     files
 }

@@ -1,28 +1,20 @@
 -- `lines::lines::put_field` meets its contract. Assumes nothing.
-use mathlib.Core.Path.{sym, ap}
-use mir.Facts.{toZ-ofZ}
-use mir.Syntax.{w64}
 use borrow.Author.Needs.{needs}
-use Rattle.text.specs.Decimal.{signedDecimal}
-use Rattle.text.specs.Put.Laws.{put-as, put-then, room-as, room-then}
+use Rattle.text.specs.Put.Laws.{put-then, room-first, room-then}
 use Rattle.lines.proofs.lines.put_field.Statement.{statement}
 use Rattle.lines.proofs.lines.put_field.Tie as tie
 
 put-byte-requires : tie.Need-put-byte-requires
-put-byte-requires c κs = search needs
+put-byte-requires c κs = room-first _ _ (c .before .before .pre)
 
-put-signed-requires : tie.Need-put-signed-requires
-put-signed-requires c κs =
-    let s = c .before .before .before .before .before .before in
-    room-as (ap signedDecimal (sym (toZ-ofZ {w = w64} {z = s .args .number} (s .fits .number)))) (room-then (c .before .before .before .put-byte .ensures) (s .pre))
+put-number-requires : tie.Need-put-number-requires
+put-number-requires c κs = room-then (c .before .before .before .put-byte .ensures) (c .before .before .before .before .before .before .pre)
 
 same-length : tie.Need-same-length
 same-length c = search needs
 
 returns : tie.Need-returns
-returns c =
-    let s = c .before .before .before .before .before .before .before .before .before in
-    put-then (c .before .before .before .before .before .before .put-byte .ensures) (put-as (ap signedDecimal (toZ-ofZ {w = w64} {z = s .args .number} (s .fits .number))) (c .before .before .put-signed .ensures))
+returns c = put-then (c .before .before .before .before .before .before .put-byte .ensures) (c .before .before .put-number .ensures)
 
 pub put-field-spec : {M : Type 1} → statement M
-put-field-spec = tie.close (tie.spec put-byte-requires put-signed-requires same-length returns)
+put-field-spec = tie.close (tie.spec put-byte-requires put-number-requires same-length returns)

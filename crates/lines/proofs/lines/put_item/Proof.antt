@@ -5,36 +5,37 @@ use Rattle.lines.specs.Lines.{itemLine}
 use Rattle.lines.proofs.lines.put_item.Statement.{statement}
 use Rattle.lines.proofs.lines.put_item.Tie as tie
 
+cast-put-number : tie.Need-cast-put-number
+cast-put-number c = search needs
+
 put-number-requires : tie.Need-put-number-requires
 unfolding itemLine
-put-number-requires c κs = room-first _ _ (c .before .before .pre)
+put-number-requires c κs = room-first _ _ (c .before .before .before .pre)
 
 put-label-requires : tie.Need-put-label-requires
 unfolding itemLine
-put-label-requires c κs = room-first _ _ (room-then (c .before .before .before .put-number .ensures) (c .before .before .before .before .before .before .pre))
+put-label-requires c κs = room-first _ _ (room-then (c .before .before .before .put-number .ensures) (c .before .before .before .before .before .before .before .pre))
+
+cast-put-number-2 : tie.Need-cast-put-number-2
+cast-put-number-2 c = search needs
 
 put-number-requires-2 : tie.Need-put-number-requires-2
 unfolding itemLine
-put-number-requires-2 c κs = room-first _ _ (room-then (c .before .before .before .put-label .ensures) (room-then (c .before .before .before .before .before .before .before .put-number .ensures) (c .before .before .before .before .before .before .before .before .before .before .pre)))
+put-number-requires-2 c κs = room-first _ _ (room-then (c .before .before .before .before .put-label .ensures) (room-then (c .before .before .before .before .before .before .before .before .put-number .ensures) (c .before .before .before .before .before .before .before .before .before .before .before .before .pre)))
 
-put-byte-requires : tie.Need-put-byte-requires
+slice-aggregate-put-text : tie.Need-slice-aggregate-put-text
+slice-aggregate-put-text c = search needs
+
+put-text-requires : tie.Need-put-text-requires
 unfolding itemLine
-put-byte-requires c κs = room-then (c .before .before .before .put-number2 .ensures) (room-then (c .before .before .before .before .before .before .before .put-label .ensures) (room-then (c .before .before .before .before .before .before .before .before .before .before .before .put-number .ensures) (c .before .before .before .before .before .before .before .before .before .before .before .before .before .before .pre)))
+put-text-requires c κs = room-then (c .before .before .before .before .put-number2 .ensures) (room-then (c .before .before .before .before .before .before .before .before .before .put-label .ensures) (room-then (c .before .before .before .before .before .before .before .before .before .before .before .before .before .put-number .ensures) (c .before .before .before .before .before .before .before .before .before .before .before .before .before .before .before .before .before .pre)))
 
 same-length : tie.Need-same-length
 same-length c = search needs
 
 returns : tie.Need-returns
 unfolding itemLine
-returns c = put-then (c .before .before .before .before .before .before .before .before .before .before .before .before .before .before .put-number .ensures) (put-then (c .before .before .before .before .before .before .before .before .before .before .put-label .ensures) (put-then (c .before .before .before .before .before .before .put-number2 .ensures) (c .before .before .put-byte .ensures)))
+returns c = put-then (c .before .before .before .before .before .before .before .before .before .before .before .before .before .before .before .before .put-number .ensures) (put-then (c .before .before .before .before .before .before .before .before .before .before .before .before .put-label .ensures) (put-then (c .before .before .before .before .before .before .before .put-number2 .ensures) (c .before .before .put-text .ensures)))
 
 pub put-item-spec : {M : Type 1} → statement M
-put-item-spec =
-    tie.close
-    (tie.spec
-    put-number-requires
-    put-label-requires
-    put-number-requires-2
-    put-byte-requires
-    same-length
-    returns)
+put-item-spec = tie.close (tie.spec cast-put-number put-number-requires put-label-requires cast-put-number-2 put-number-requires-2 slice-aggregate-put-text put-text-requires same-length returns)

@@ -8,31 +8,25 @@ slice-aggregate-put-text : tie.Need-slice-aggregate-put-text
 slice-aggregate-put-text c = search needs
 
 put-text-requires : tie.Need-put-text-requires
-put-text-requires c κs = search needs
+put-text-requires c κs = room-first _ _ (c .before .before .before .pre)
 
-cast-put-number : tie.Need-cast-put-number
-cast-put-number c = search needs
+cast-put-field : tie.Need-cast-put-field
+cast-put-field c = search needs
 
-put-number-requires : tie.Need-put-number-requires
-put-number-requires c κs = room-first _ _ (room-then (c .before .before .before .before .put-text .ensures) (c .before .before .before .before .before .before .before .before .pre))
+put-field-requires : tie.Need-put-field-requires
+put-field-requires c κs = room-first _ _ (room-then (c .before .before .before .before .put-text .ensures) (c .before .before .before .before .before .before .before .before .pre))
 
-put-byte-requires : tie.Need-put-byte-requires
-put-byte-requires c κs = room-then (c .before .before .before .put-number .ensures) (room-then (c .before .before .before .before .before .before .before .before .put-text .ensures) (c .before .before .before .before .before .before .before .before .before .before .before .before .pre))
+slice-aggregate-put-text-2 : tie.Need-slice-aggregate-put-text-2
+slice-aggregate-put-text-2 c = search needs
+
+put-text-requires-2 : tie.Need-put-text-requires-2
+put-text-requires-2 c κs = room-then (c .before .before .before .before .put-field .ensures) (room-then (c .before .before .before .before .before .before .before .before .before .put-text .ensures) (c .before .before .before .before .before .before .before .before .before .before .before .before .before .pre))
 
 same-length : tie.Need-same-length
 same-length c = search needs
 
 returns : tie.Need-returns
-returns c = put-then (c .before .before .before .before .before .before .before .before .before .before .before .put-text .ensures) (put-then (c .before .before .before .before .before .before .put-number .ensures) (c .before .before .put-byte .ensures))
+returns c = put-then (c .before .before .before .before .before .before .before .before .before .before .before .before .put-text .ensures) (put-then (c .before .before .before .before .before .before .before .put-field .ensures) (c .before .before .put-text2 .ensures))
 
 pub put-refusal-spec : {M : Type 1} → statement M
-put-refusal-spec =
-    tie.close
-    (tie.spec
-    slice-aggregate-put-text
-    put-text-requires
-    cast-put-number
-    put-number-requires
-    put-byte-requires
-    same-length
-    returns)
+put-refusal-spec = tie.close (tie.spec slice-aggregate-put-text put-text-requires cast-put-field put-field-requires slice-aggregate-put-text-2 put-text-requires-2 same-length returns)

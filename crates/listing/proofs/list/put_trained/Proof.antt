@@ -7,7 +7,7 @@ use Rattle.reading.specs.Reading.{reading}
 use Rattle.reading.specs.Calls.{itemsIn}
 use Rattle.dual_problem.specs.Items.{Listed}
 use Rattle.text.specs.Put.Laws.{put-as, put-then, room-as, room-first, room-then}
-use Rattle.lines.specs.Lines.{joined, lineIn}
+use Rattle.lines.specs.Lines.{itemsWithTotal, shownIn}
 use Rattle.listing.specs.Listing.{itemCount, listing}
 use Rattle.listing.specs.Listing.Laws.{count-items, reading-listed}
 use Rattle.listing.proofs.list.put_trained.Statement.{statement}
@@ -40,7 +40,7 @@ put-items-requires c κs =
     let n = count-is (c .before .before .before .before .before .before) in (
       subst₂ (Listed (s .args .file .now)) (sym (c .before .before .before .before .before .before .before .before .read .ensures .1)) (sym n) (reading-listed (s .args .file .now) _ refl),
       omega (arith, n, s .pre .0),
-      room-as (ap (λ k. joined k (lineIn (s .args .file .now) (s .args .multipliers .now))) (sym n)) (room-then (c .before .before .before .before .put-result .ensures) (s .pre .1)),
+      room-as (ap (λ k. itemsWithTotal k (shownIn (s .args .file .now) (s .args .multipliers .now))) (sym n)) (room-then (c .before .before .before .before .put-result .ensures) (s .pre .1)),
     )
 
 same-length : tie.Need-same-length
@@ -50,7 +50,7 @@ returns : tie.Need-returns
 unfolding listing
 returns c =
     let a = c .before .before .before .before .before .before .before .before .before .before .before .before .before .before .before .before .args in
-    put-then (c .before .before .before .before .before .before .before .put-result .ensures) (put-as (ap (λ k. joined k (lineIn (a .file .now) (a .multipliers .now))) (count-is (c .before .before .before .before .before .before .before .before .before))) (c .before .before .put-items .ensures))
+    put-then (c .before .before .before .before .before .before .before .put-result .ensures) (put-as (ap (λ k. itemsWithTotal k (shownIn (a .file .now) (a .multipliers .now))) (count-is (c .before .before .before .before .before .before .before .before .before))) (c .before .before .put-items .ensures))
 
 pub put-trained-spec : {M : Type 1} → statement M
 put-trained-spec =

@@ -7,13 +7,8 @@ use native.Mathlib.Decide.{decLe}
 use native.Mathlib.Nat.{div-add-mod', le-div-iff-mul-le}
 use native.Mathlib.Omega.{arith}
 use lib.ListN.{getD}
-use Rattle.text.specs.Decimal.{digits, decimal}
+use Rattle.text.specs.Decimal.{digits, decimal, value}
 use Rattle.text.specs.Decimal.Laws.{digits-one, digits-more, tenth-below}
-
--- what digits say, after those that said `so-far`
-unfoldable pub value : ℕ → List ℕ → ℕ
-value so-far [] = so-far
-value so-far (digit ∷ more) = value (so-far * 10 + (digit - 48)) more
 
 value-append : (so-far : ℕ) (xs ys : List ℕ) → value so-far (xs ++ ys) ≡ value (value so-far xs) ys
 unfolding value
