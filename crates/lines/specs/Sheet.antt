@@ -1,6 +1,5 @@
--- The printed sheet as somebody with a pencil reads it: its bytes alone, whatever they were made of. What the line of an item shows stands
--- in three fields, record number, sign and multiplier; the last line adds up the lines above it (document 02, request (l)). Laws are in
--- Sheet/Laws.antt. Assumes nothing.
+-- The printed sheet by its bytes alone, as it is read and added up by hand. What the line of an item shows stands in three fields, record
+-- number, sign and multiplier; the last line adds up the item lines (document 02, request (l)). Laws are in Sheet/Laws.antt. Assumes nothing.
 pub mod Laws
 use mathlib.Core.Path.{_≡_}
 use mathlib.Core.Bool.{cond}
@@ -31,8 +30,8 @@ sumRead sign [] = 0
 sumRead sign (line ∷ more) = cond (eqb (getD (fieldIn line 1) 0 0) sign) (numberIn line 2) 0 + sumRead sign more
 
 -- "After its item lines the training program prints `total`, the count of multipliers above 0, the sum over label +1 and the sum over label
--- −1. These are the sums of the printed lines, and the two sums are equal": a sheet is line one, item lines and a total; each line ends
--- with byte 10, 43 is `+` and 45 is `-`
+-- −1. These are the sums of the printed lines, and the two sums are equal": the lines of a sheet, each of which ends with byte 10, are line
+-- one, the item lines and the total, and nothing comes after; 43 is `+` and 45 is `-`
 pub record AddsUp (sheet : List ℕ) : Type 0 where
   pub first : List ℕ
   pub items : List (List ℕ)

@@ -48,17 +48,17 @@ unfolding sumOver
 sum-most label zero line h = omega arith
 sum-most label (suc n) line {most} h = omega (arith, sum-most label n line (λ i l. h i (omega arith)), share-most label (line n .label) (line n .multiplier), h n (le-refl (suc n)))
 
--- with so many lines, of multipliers of 32 bits, no sum passes 64 bits
+-- with at most 256 lines, of multipliers of 32 bits, no total passes 64 bits
 pub next-fits : (n : ℕ) (line : ℕ → Shown) → n < recordsMost → ((i : ℕ) → line i .multiplier < 2 ^ 32)
     → (totals n line .count + totalsOfLine (line n) .count < 2 ^ 64)
     × (totals n line .plus + totalsOfLine (line n) .plus < 2 ^ 64)
     × (totals n line .minus + totalsOfLine (line n) .minus < 2 ^ 64)
 unfolding countAboveZero sumOver
 next-fits n line few small =
-    (omega (arith, count-most (suc n) line), omega (arith, sum LookedUp), omega (arith, sum PassedOver))
+    (omega (arith, count-most (suc n) line), omega (arith, bounded LookedUp), omega (arith, bounded PassedOver))
   where
-    sum : (label : Label) → sumOver label (suc n) line ≤ suc n * 2 ^ 32
-    sum label = sum-most label (suc n) line (λ i l. omega (arith, small i))
+    bounded : (label : Label) → sumOver label (suc n) line ≤ suc n * 2 ^ 32
+    bounded label = sum-most label (suc n) line (λ i l. omega (arith, small i))
 
 -- ---- the two sums, and the sum of a_i × y_i
 share-signed : (label : Label) (multiplier : ℕ) → pos multiplier *ℤ sign label ≡ pos (share LookedUp label multiplier) -ℤ pos (share PassedOver label multiplier)

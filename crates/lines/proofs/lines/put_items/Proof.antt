@@ -13,7 +13,6 @@ use Rattle.dual_problem.specs.Items.{Listed, at as atPlace}
 use Rattle.text.specs.Put.{Put, Room}
 use Rattle.text.specs.Put.Laws.{put-as, put-length, put-none, put-then, room-as, room-then}
 use Rattle.lines.specs.declared.totals.Shown.{Shown}
-use Rattle.lines.specs.declared.totals.Totals.{Totals}
 use Rattle.lines.specs.Totals.{both, countAboveZero, sumOver, totals as totalsBelow, totalsOfLine}
 use Rattle.lines.specs.Totals.Laws.{next-fits, totals-next}
 use Rattle.lines.specs.Lines.{itemLine, itemsWithTotal, joined, shownIn, totalLine}
