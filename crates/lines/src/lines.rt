@@ -17,8 +17,6 @@ ghost use Rattle.lines.specs.Lines.{
   signedField,
   totalLine,
 };
-use super::totals::Shown;
-use super::totals::Totals;
 use reading::reader::fetch_label;
 use smo::ending::Ending;
 use smo::run::Trained;
@@ -26,6 +24,8 @@ use text::number::put_number;
 use text::number::put_signed;
 use text::text::put_byte;
 use text::text::put_text;
+use totals::totals::Shown;
+use totals::totals::Totals;
 use training_file::item::Label;
 use training_file::refusal::Refusal;
 

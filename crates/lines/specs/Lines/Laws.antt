@@ -11,9 +11,9 @@ use Rattle.smo.specs.declared.ending.Ending.the-variants.{Converged, Stuck, Spe
 use Rattle.smo.specs.declared.run.Trained.{Trained}
 use Rattle.text.specs.Decimal.{decimal}
 use Rattle.text.specs.Decimal.Laws.{decimal-few, decimal-length, signed-length}
-use Rattle.lines.specs.declared.totals.Shown.{Shown}
-use Rattle.lines.specs.declared.totals.Totals.{Totals}
-use Rattle.lines.specs.Totals.Laws.{totals-cong}
+use Rattle.totals.specs.declared.totals.Shown.{Shown}
+use Rattle.totals.specs.declared.totals.Totals.{Totals}
+use Rattle.totals.specs.Totals.Laws.{totals-cong}
 use Rattle.lines.specs.Lines.{endingText, itemLine, itemsWithTotal, joined, labelSign, resultLine, totalLine}
 
 -- ---- texts one after the other

@@ -17,10 +17,10 @@ use Rattle.text.specs.Decimal.{decimal, value}
 use Rattle.text.specs.Decimal.Laws.Meaning.{decimal-value}
 use Rattle.text.specs.Parts.{parts}
 use Rattle.text.specs.Parts.Laws.{free, decimal-free, free-append, parts-first, parts-one, signed-free}
-use Rattle.lines.specs.declared.totals.Shown.{Shown}
-use Rattle.lines.specs.declared.totals.Totals.{Totals}
-use Rattle.lines.specs.Totals.{countAboveZero, oneAboveZero, share, sumOver, totals}
-use Rattle.lines.specs.Totals.Laws.{count-most, sum-most}
+use Rattle.totals.specs.declared.totals.Shown.{Shown}
+use Rattle.totals.specs.declared.totals.Totals.{Totals}
+use Rattle.totals.specs.Totals.{countAboveZero, oneAboveZero, share, sumOver, totals}
+use Rattle.totals.specs.Totals.Laws.{count-most, sum-most}
 use Rattle.lines.specs.Lines.{endingText, field, itemLine, itemsWithTotal, joined, labelSign, refusalLine, refusedText, resultLine, signedField, totalLine, totalText}
 use Rattle.lines.specs.Sheet.{AddsUp, countRead, fieldIn, numberIn, sumRead}
 

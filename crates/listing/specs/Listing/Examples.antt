@@ -10,7 +10,7 @@ use Rattle.smo.specs.declared.ending.Ending.the-variants.{Converged}
 use Rattle.training.specs.declared.train.Training.the-variants.{Refused, Ended}
 use Rattle.text.specs.Decimal.{digits, decimal, signedDecimal, value}
 use Rattle.text.specs.Parts.{before, parts}
-use Rattle.lines.specs.Totals.{countAboveZero, sumOver}
+use Rattle.totals.specs.Totals.{countAboveZero, sumOver}
 use Rattle.lines.specs.Lines.{itemLine, joined, resultLine, totalLine}
 use Rattle.lines.specs.Sheet.{countRead, sumRead}
 use Rattle.listing.specs.Listing.{listing}

@@ -26,7 +26,7 @@ use Rattle.smo.specs.Answer.{trainedOf}
 use Rattle.training.specs.Train.{endedWith, unchanged, trainRead}
 use Rattle.training.specs.Train.Laws.{accepted-sound}
 use Rattle.text.specs.Decimal.Laws.{decimal-length}
-use Rattle.lines.specs.Totals.{totals}
+use Rattle.totals.specs.Totals.{totals}
 use Rattle.lines.specs.Lines.{itemLine, itemsWithTotal, joined, resultLine, shownAt, totalLine}
 use Rattle.lines.specs.Lines.Laws.{item-length, items-cong, joined-length, result-length, total-length}
 use Rattle.listing.specs.Listing.{itemCount, listing, listingOf}

@@ -12,9 +12,9 @@ use Rattle.reading.specs.Calls.{itemIn, itemsIn}
 use Rattle.dual_problem.specs.Items.{Listed, at as atPlace}
 use Rattle.text.specs.Put.{Put, Room}
 use Rattle.text.specs.Put.Laws.{put-as, put-length, put-none, put-then, room-as, room-then}
-use Rattle.lines.specs.declared.totals.Shown.{Shown}
-use Rattle.lines.specs.Totals.{both, countAboveZero, sumOver, totals as totalsBelow, totalsOfLine}
-use Rattle.lines.specs.Totals.Laws.{next-fits, totals-next}
+use Rattle.totals.specs.declared.totals.Shown.{Shown}
+use Rattle.totals.specs.Totals.{both, countAboveZero, sumOver, totals as totalsBelow, totalsOfLine}
+use Rattle.totals.specs.Totals.Laws.{next-fits, totals-next}
 use Rattle.lines.specs.Lines.{itemLine, itemsWithTotal, joined, shownIn, totalLine}
 use Rattle.lines.specs.Lines.Laws.{joined-rises}
 use Rattle.lines.proofs.lines.put_items.Statement.{statement}

@@ -17,7 +17,7 @@ use Rattle.smo.specs.Answer.{trainedOf}
 use Rattle.training.specs.Train.Laws.{accepted-sound}
 use Rattle.text.specs.Parts.{parts}
 use Rattle.lines.specs.Lines.{field, refusedText, shownAt}
-use Rattle.lines.specs.Totals.Laws.{sums-equal}
+use Rattle.totals.specs.Totals.Laws.{sums-equal}
 use Rattle.lines.specs.Sheet.{AddsUp}
 use Rattle.lines.specs.Sheet.Laws.{adds-up, refusal-one-line}
 use Rattle.listing.specs.Listing.{listing, listingOf}

@@ -2,7 +2,7 @@
 
 ghost use mathlib.Core.Path.{_≡_};
 ghost use Prim.Native.Nat.{_+_, _^_, _<_};
-ghost use Rattle.lines.specs.Totals.{both, oneAboveZero, totalsOfLine};
+ghost use Rattle.totals.specs.Totals.{both, oneAboveZero, totalsOfLine};
 use training_file::item::Label;
 
 // What the line of an item shows.

@@ -1,13 +1,13 @@
--- `lines::totals::Totals::of_line` meets its contract. Assumes nothing.
+-- `totals::totals::Totals::of_line` meets its contract. Assumes nothing.
 use mathlib.Core.Path.{_≡_, sym}
 use borrow.Author.Needs.{needs}
 use Rattle.training_file.specs.declared.item.Label.{Label}
 use Rattle.training_file.specs.declared.item.Label.the-variants.{LookedUp, PassedOver}
-use Rattle.lines.specs.declared.totals.Shown.{Shown}
-use Rattle.lines.specs.declared.totals.Totals.{Totals}
-use Rattle.lines.specs.Totals.{oneAboveZero, share, totalsOfLine}
-use Rattle.lines.proofs.totals.Totals.of_line.Statement.{statement}
-use Rattle.lines.proofs.totals.Totals.of_line.Tie as tie
+use Rattle.totals.specs.declared.totals.Shown.{Shown}
+use Rattle.totals.specs.declared.totals.Totals.{Totals}
+use Rattle.totals.specs.Totals.{oneAboveZero, share, totalsOfLine}
+use Rattle.totals.proofs.totals.Totals.of_line.Statement.{statement}
+use Rattle.totals.proofs.totals.Totals.of_line.Tie as tie
 
 -- the totals of a line, from its label and what its multiplier adds to the count
 by-label : (shown : Shown) {label : Label} {count : _} → shown .label ≡ label → count ≡ oneAboveZero (shown .multiplier)

@@ -14,8 +14,8 @@ use Rattle.training_file.specs.declared.item.Label.{Label}
 use Rattle.training_file.specs.declared.item.Label.the-variants.{LookedUp, PassedOver}
 use Rattle.training_file.specs.Parameters.{recordsMost}
 use Rattle.dual_problem.specs.Problem.{sign}
-use Rattle.lines.specs.declared.totals.Shown.{Shown}
-use Rattle.lines.specs.Totals.{both, countAboveZero, oneAboveZero, share, sumOver, totals, totalsOfLine}
+use Rattle.totals.specs.declared.totals.Shown.{Shown}
+use Rattle.totals.specs.Totals.{both, countAboveZero, oneAboveZero, share, sumOver, totals, totalsOfLine}
 
 -- one line more
 pub totals-next : (n : ℕ) (line : ℕ → Shown) → both (totals n line) (totalsOfLine (line n)) ≡ totals (suc n) line

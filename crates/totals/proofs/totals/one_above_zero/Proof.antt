@@ -1,9 +1,9 @@
--- `lines::totals::one_above_zero` meets its contract. Assumes nothing.
+-- `totals::totals::one_above_zero` meets its contract. Assumes nothing.
 use mathlib.Core.Bool.{cond}
 use mathlib.Core.Path.{sym, ap}
 use borrow.Author.Tests.{lt-ltb, le-ltb}
-use Rattle.lines.proofs.totals.one_above_zero.Statement.{statement}
-use Rattle.lines.proofs.totals.one_above_zero.Tie as tie
+use Rattle.totals.proofs.totals.one_above_zero.Statement.{statement}
+use Rattle.totals.proofs.totals.one_above_zero.Tie as tie
 
 returns : tie.Need-returns
 returns c = sym (ap (λ b. cond b 1 0) (lt-ltb 0 _ (c .if1 .taken)))
