@@ -1,5 +1,6 @@
 -- The listing that the training program prints (document 01, last part of "Settled examples", and document 02, request (l)), as a list of
--- bytes, of the lines that the crate `lines` defines. Laws are in Listing/Laws.antt, and the document's own example is in Listing/Examples.antt. Assumes nothing.
+-- bytes, of the lines that the crate `lines` defines. Laws are in Listing/Laws.antt, and the documents' own example is in
+-- Listing/Examples.antt. Assumes nothing.
 pub mod Laws
 pub mod Examples
 use mathlib.Core.List.{List, [], _++_}

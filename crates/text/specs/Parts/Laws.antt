@@ -1,4 +1,5 @@
 -- Laws of texts taken apart: a part ends at the first mark, and no digit is a mark below 48. Assumes nothing.
+pub mod Meaning
 use mathlib.Core.Bool.{Bool, true, false, cond, true≢false}
 use mathlib.Core.Path.{_≡_, refl, sym, _∙_, ap}
 use mathlib.Core.List.{List, [], _∷_, _++_}
@@ -22,7 +23,7 @@ module _ (mark : ℕ) where
   unfolding free
   free-byte x xs h = chose-second (eqb x mark) (λ e. true≢false (sym e)) h
 
-  free-∷ : (x : ℕ) (xs : List ℕ) → eqb x mark ≡ false → free mark xs ≡ true → free mark (x ∷ xs) ≡ true
+  pub free-∷ : (x : ℕ) (xs : List ℕ) → eqb x mark ≡ false → free mark xs ≡ true → free mark (x ∷ xs) ≡ true
   unfolding free
   free-∷ x xs e h = ap (λ b. cond b false (free mark xs)) e ∙ h
 

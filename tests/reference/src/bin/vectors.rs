@@ -92,12 +92,29 @@ fn print_counts(files: &[Vec<u8>], listings: &[String]) {
         println!("{answer}: {count}");
     }
     print_shapes(files);
+    print_totals(listings);
 }
 
 /// The ending, or the refusal with its number.
 fn answer(listing: &str) -> String {
     let words: Vec<&str> = listing.split_whitespace().collect();
     words[..if words[0] == "refused" { 2 } else { 1 }].join(" ")
+}
+
+/// In how many listings no multiplier is above 0, some are, and all are.
+fn print_totals(listings: &[String]) {
+    let (mut none, mut some, mut all) = (0, 0, 0);
+    for listing in listings {
+        let lines: Vec<&str> = listing.lines().collect();
+        let total = lines[lines.len() - 1].strip_prefix("total ");
+        match total.and_then(|numbers| numbers.split(' ').next()) {
+            None => {}
+            Some("0") => none += 1,
+            Some(above) if above == (lines.len() - 2).to_string() => all += 1,
+            Some(_) => some += 1,
+        }
+    }
+    println!("multipliers above 0: none {none}, some {some}, all {all}");
 }
 
 fn print_shapes(files: &[Vec<u8>]) {

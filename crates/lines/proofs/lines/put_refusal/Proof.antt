@@ -1,6 +1,7 @@
 -- `lines::lines::put_refusal` meets its contract. Assumes nothing.
 use borrow.Author.Needs.{needs}
 use Rattle.text.specs.Put.Laws.{put-then, room-first, room-then}
+use Rattle.lines.specs.Lines.{refusedText}
 use Rattle.lines.proofs.lines.put_refusal.Statement.{statement}
 use Rattle.lines.proofs.lines.put_refusal.Tie as tie
 
@@ -8,7 +9,7 @@ slice-aggregate-put-text : tie.Need-slice-aggregate-put-text
 slice-aggregate-put-text c = search needs
 
 put-text-requires : tie.Need-put-text-requires
-put-text-requires c κs = room-first _ _ (c .before .before .before .pre)
+put-text-requires c κs = room-first refusedText _ (c .before .before .before .pre)
 
 cast-put-field : tie.Need-cast-put-field
 cast-put-field c = search needs

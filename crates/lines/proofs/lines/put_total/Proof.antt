@@ -1,7 +1,7 @@
 -- `lines::lines::put_total` meets its contract. Assumes nothing.
 use borrow.Author.Needs.{needs}
 use Rattle.text.specs.Put.Laws.{put-then, room-first, room-then}
-use Rattle.lines.specs.Lines.{totalLine}
+use Rattle.lines.specs.Lines.{totalLine, totalText}
 use Rattle.lines.proofs.lines.put_total.Statement.{statement}
 use Rattle.lines.proofs.lines.put_total.Tie as tie
 
@@ -10,7 +10,7 @@ slice-aggregate-put-text c = search needs
 
 put-text-requires : tie.Need-put-text-requires
 unfolding totalLine
-put-text-requires c κs = room-first _ _ (c .before .before .before .pre)
+put-text-requires c κs = room-first totalText _ (c .before .before .before .pre)
 
 put-field-requires : tie.Need-put-field-requires
 unfolding totalLine
