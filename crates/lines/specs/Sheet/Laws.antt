@@ -44,16 +44,16 @@ module _ {line body : List ℕ} (e : Ended line body) where
   parts-last = ap (parts 10) (e .whole) ∙ parts-first 10 body [] (e .unbroken)
 
 -- the texts of the places below n, each by itself
-unfoldable listed : ℕ → (ℕ → List ℕ) → List (List ℕ)
-listed zero text = []
-listed (suc n) text = listed n text ++ (text n ∷ [])
+unfoldable separate : ℕ → (ℕ → List ℕ) → List (List ℕ)
+separate zero text = []
+separate (suc n) text = separate n text ++ (text n ∷ [])
 
-parts-joined : (n : ℕ) (line body : ℕ → List ℕ) → ((i : ℕ) → Ended (line i) (body i)) → (rest : List ℕ) → parts 10 (joined n line ++ rest) ≡ listed n body ++ parts 10 rest
-unfolding joined listed
+parts-joined : (n : ℕ) (line body : ℕ → List ℕ) → ((i : ℕ) → Ended (line i) (body i)) → (rest : List ℕ) → parts 10 (joined n line ++ rest) ≡ separate n body ++ parts 10 rest
+unfolding joined separate
 parts-joined zero line body e rest = refl
 parts-joined (suc n) line body e rest =
-    ap (parts 10) (append-assoc (joined n line) (line n) rest) ∙ parts-joined n line body e (line n ++ rest) ∙ ap (λ p. listed n body ++ p) (parts-ended (e n) rest)
-    ∙ sym (append-assoc (listed n body) (body n ∷ []) (parts 10 rest))
+    ap (parts 10) (append-assoc (joined n line) (line n) rest) ∙ parts-joined n line body e (line n ++ rest) ∙ ap (λ p. separate n body ++ p) (parts-ended (e n) rest)
+    ∙ sym (append-assoc (separate n body) (body n ∷ []) (parts 10 rest))
 
 -- ---- each kind of line is one, of a body and byte 10
 field-free : (number : ℕ) → free 10 (field number) ≡ true
@@ -153,20 +153,20 @@ sum-more sign [] line = omega arith
 sum-more sign (l ∷ lines) line = omega (arith, sum-more sign lines line)
 
 module _ (shown : ℕ → Shown) where
-  count-read : (n : ℕ) → ((i : ℕ) → i < n → shown i .multiplier < 2 ^ 64) → countRead (listed n (λ i. itemBody (shown i))) ≡ countAboveZero n shown
-  unfolding listed countRead countAboveZero
+  count-read : (n : ℕ) → ((i : ℕ) → i < n → shown i .multiplier < 2 ^ 64) → countRead (separate n (λ i. itemBody (shown i))) ≡ countAboveZero n shown
+  unfolding separate countRead countAboveZero
   count-read zero small = refl
   count-read (suc n) small =
-      count-more (listed n (λ i. itemBody (shown i))) (itemBody (shown n))
+      count-more (separate n (λ i. itemBody (shown i))) (itemBody (shown n))
       ∙ (λ k. count-read n (λ i l. small i (omega arith)) k + oneAboveZero (multiplier-read (shown n) (small n (le-refl (suc n))) k))
 
-  sum-read : (label : Label) (n : ℕ) → ((i : ℕ) → i < n → shown i .multiplier < 2 ^ 64) → sumRead (labelSign label) (listed n (λ i. itemBody (shown i))) ≡ sumOver label n shown
-  unfolding listed sumRead sumOver
+  sum-read : (label : Label) (n : ℕ) → ((i : ℕ) → i < n → shown i .multiplier < 2 ^ 64) → sumRead (labelSign label) (separate n (λ i. itemBody (shown i))) ≡ sumOver label n shown
+  unfolding separate sumRead sumOver
   sum-read label zero small = refl
   sum-read label (suc n) small =
       let multiplier = multiplier-read (shown n) (small n (le-refl (suc n))) in
       let one = (λ k. cond (eqb (sign-read (shown n) k) (labelSign label)) (multiplier k) 0) ∙ share-by-sign label (shown n .label) (shown n .multiplier) in
-      sum-more (labelSign label) (listed n (λ i. itemBody (shown i))) (itemBody (shown n)) ∙ (λ k. sum-read label n (λ i l. small i (omega arith)) k + one k)
+      sum-more (labelSign label) (separate n (λ i. itemBody (shown i))) (itemBody (shown n)) ∙ (λ k. sum-read label n (λ i l. small i (omega arith)) k + one k)
 
 -- ---- the sheet: a refusal is one line, and everything else adds up
 pub refusal-one-line : (number : ℕ) → parts 10 (refusalLine number) ≡ (refusedText ++ field number) ∷ [] ∷ []
@@ -192,12 +192,12 @@ module _ (trained : Trained) (n : ℕ) (shown : ℕ → Shown) (few : n ≤ reco
   adds-up equal =
       record {
         first = resultBody trained;
-        items = listed n (λ i. itemBody (shown i));
+        items = separate n (λ i. itemBody (shown i));
         total = totalBody (totals n shown);
         lines =
             parts-ended (result-ended trained) (itemsWithTotal n shown)
             ∙ ap (λ p. resultBody trained ∷ p) (parts-joined n (λ i. itemLine (shown i)) (λ i. itemBody (shown i)) (λ i. item-ended (shown i)) (totalLine (totals n shown)))
-            ∙ ap (λ p. resultBody trained ∷ (listed n (λ i. itemBody (shown i)) ++ p)) (parts-last (total-ended (totals n shown)));
+            ∙ ap (λ p. resultBody trained ∷ (separate n (λ i. itemBody (shown i)) ++ p)) (parts-last (total-ended (totals n shown)));
         word = ap (λ p. getD p 0 []) (total-fields (totals n shown));
         count = count-total ∙ sym (count-read shown n small-64);
         plus = plus-total ∙ sym (sum-read shown LookedUp n small-64);
