@@ -119,7 +119,10 @@ item-fields shown =
     ∙ ap (λ p. decimal (shown .number) ∷ p) (parts-first 32 (labelSign (shown .label) ∷ []) (decimal (shown .multiplier)) (sign-alone (shown .label)))
     ∙ ap (λ p. decimal (shown .number) ∷ (labelSign (shown .label) ∷ []) ∷ p) (parts-one 32 (decimal (shown .multiplier)) (number-free (shown .multiplier)))
 
-total-fields : (totals : Totals) → parts 32 (totalBody totals) ≡ totalText ∷ decimal (totals .count) ∷ decimal (totals .plus) ∷ decimal (totals .minus) ∷ []
+abbrev totalFields : Totals → List (List ℕ)
+totalFields totals = totalText ∷ decimal (totals .count) ∷ decimal (totals .plus) ∷ decimal (totals .minus) ∷ []
+
+total-fields : (totals : Totals) → parts 32 (totalBody totals) ≡ totalFields totals
 unfolding free
 total-fields totals =
     parts-first 32 totalText (decimal (totals .count) ++ (field (totals .plus) ++ field (totals .minus))) refl
@@ -127,7 +130,10 @@ total-fields totals =
     ∙ ap (λ p. totalText ∷ decimal (totals .count) ∷ p) (parts-first 32 (decimal (totals .plus)) (decimal (totals .minus)) (number-free (totals .plus)))
     ∙ ap (λ p. totalText ∷ decimal (totals .count) ∷ decimal (totals .plus) ∷ p) (parts-one 32 (decimal (totals .minus)) (number-free (totals .minus)))
 
--- ---- what is read off the item lines is what they show
+-- ---- what is read off the total is what it is of, and off the item lines what they show
+total-read : (totals : Totals) (k : ℕ) {number : ℕ} → number < 2 ^ 64 → getD (totalFields totals) k [] ≡ decimal number → numberIn (totalBody totals) k ≡ number
+total-read totals k {number} small is = ap (λ p. value 0 (getD p k [])) (total-fields totals) ∙ ap (value 0) is ∙ decimal-value number small
+
 multiplier-read : (shown : Shown) → shown .multiplier < 2 ^ 64 → numberIn (itemBody shown) 2 ≡ shown .multiplier
 multiplier-read shown small = ap (λ p. value 0 (getD p 2 [])) (item-fields shown) ∙ decimal-value (shown .multiplier) small
 
@@ -176,17 +182,18 @@ module _ (trained : Trained) (n : ℕ) (shown : ℕ → Shown) (few : n ≤ reco
   small-64 : (i : ℕ) → i < n → shown i .multiplier < 2 ^ 64
   small-64 i l = omega (arith, small i l)
 
-  count-total : numberIn (totalBody (totals n shown)) 1 ≡ countAboveZero n shown
-  count-total = ap (λ p. value 0 (getD p 1 [])) (total-fields (totals n shown)) ∙ decimal-value (countAboveZero n shown) (omega (arith, count-most n shown, few))
-
+  -- the count and the sums are numbers of 64 bits, and so read back
   sum-small : (label : Label) → sumOver label n shown < 2 ^ 64
   sum-small label = omega (arith, sum-most label n shown {most = 2 ^ 32} (λ i l. omega (arith, small i l)), few)
 
+  count-total : numberIn (totalBody (totals n shown)) 1 ≡ countAboveZero n shown
+  count-total = total-read (totals n shown) 1 (omega (arith, count-most n shown, few)) refl
+
   plus-total : numberIn (totalBody (totals n shown)) 2 ≡ sumOver LookedUp n shown
-  plus-total = ap (λ p. value 0 (getD p 2 [])) (total-fields (totals n shown)) ∙ decimal-value (sumOver LookedUp n shown) (sum-small LookedUp)
+  plus-total = total-read (totals n shown) 2 (sum-small LookedUp) refl
 
   minus-total : numberIn (totalBody (totals n shown)) 3 ≡ sumOver PassedOver n shown
-  minus-total = ap (λ p. value 0 (getD p 3 [])) (total-fields (totals n shown)) ∙ decimal-value (sumOver PassedOver n shown) (sum-small PassedOver)
+  minus-total = total-read (totals n shown) 3 (sum-small PassedOver) refl
 
   pub adds-up : sumOver LookedUp n shown ≡ sumOver PassedOver n shown → AddsUp (resultLine trained ++ itemsWithTotal n shown)
   adds-up equal =
