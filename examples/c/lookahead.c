@@ -84,6 +84,24 @@ static bool read_items(const uint8_t *file, Model *model) {
     return true;
 }
 
+/* The last line of the training program's listing: how many multipliers are
+ * above 0, and their sums over the items looked up and over those passed over,
+ * which are equal. An item's label is byte 2 of its record. */
+static void print_total(const uint8_t *file, const Model *model) {
+    size_t above_zero = 0;
+    uint64_t looked_up = 0, passed_over = 0;
+    for (size_t i = 0; i < model->items; i++) {
+        uint32_t multiplier = model->multipliers[i];
+        if (file[HEADER + (model->order[i] - 1) * RECORD + 2] == WAS_LOOKED_UP) {
+            looked_up += multiplier;
+        } else {
+            passed_over += multiplier;
+        }
+        above_zero += multiplier > 0;
+    }
+    printf("total %zu %" PRIu64 " %" PRIu64 "\n", above_zero, looked_up, passed_over);
+}
+
 /* Whether training refused nothing, so that there are multipliers to go on with. */
 static bool train(const uint8_t *file, Model *model) {
     int64_t gradient[LOOKAHEAD_MOST_ITEMS], lower, upper;
@@ -100,6 +118,7 @@ static bool train(const uint8_t *file, Model *model) {
     for (size_t i = 0; i < model->items; i++) {
         printf("record %d: multiplier %" PRIu32 "\n", model->order[i], model->multipliers[i]);
     }
+    print_total(file, model);
     printf("thresholds: lower %" PRId64 ", upper %" PRId64 "\n", lower, upper);
     return true;
 }

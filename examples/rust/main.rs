@@ -223,6 +223,20 @@ fn print_class(file: &[u8], multipliers: &[u32], feature: i8) {
     }
 }
 
+/// The last line of the training program's listing: how many multipliers are
+/// above 0, and their sums over the items looked up and over those passed over,
+/// which are equal. An item's label is byte 2 of its record.
+fn print_total(file: &[u8], order: &[u16], multipliers: &[u32]) {
+    let label = |record: u16| file[32 + 20 * (usize::from(record) - 1) + 2];
+    let sum = |labelled: u8| -> u64 {
+        let items = order.iter().zip(multipliers);
+        let of_label = items.filter(|item| label(*item.0) == labelled);
+        of_label.map(|item| u64::from(*item.1)).sum()
+    };
+    let above_zero = multipliers.iter().filter(|&&a| a > 0).count();
+    println!("total {above_zero} {} {}", sum(1), sum(2));
+}
+
 fn print_contents(read: &Contents) {
     let kernel = match read.kernel {
         Kernel::Linear => "linear",
@@ -250,6 +264,7 @@ fn main() -> Result<(), Refusal> {
     for (record, multiplier) in order.iter().zip(&multipliers) {
         println!("record {record}: multiplier {multiplier}");
     }
+    print_total(&file, &order[..read.items], &multipliers);
     let found = trained.thresholds;
     println!("thresholds: lower {}, upper {}", found.lower, found.upper);
     print_certified("certify", &file, &multipliers);

@@ -1,4 +1,5 @@
-//! A second implementation of document 01, written from that paper alone.
+//! A second implementation of document 01, with the requests of document 02 that
+//! have landed, written from these papers alone.
 //!
 //! It is plain and slow so that it can be believed: G is worked out from its
 //! definition before every step, the amount of a move is found by trying every

@@ -25,17 +25,17 @@ use Rattle.lines.specs.Lines.{endingText, field, itemLine, itemsWithTota
 use Rattle.lines.specs.Sheet.{AddsUp, countRead, fieldIn, numberIn, sumRead}
 
 -- ---- a text that is one line: its bytes before the last are no byte 10, and the last is
-record Ended (line body : List ℕ) : Type 0 where
+record EndedLine (line body : List ℕ) : Type 0 where
   whole : line ≡ body ++ (10 ∷ [])
   unbroken : free 10 body ≡ true
 
-ended-one : (xs : List ℕ) → free 10 xs ≡ true → Ended (xs ++ (10 ∷ [])) xs
+ended-one : (xs : List ℕ) → free 10 xs ≡ true → EndedLine (xs ++ (10 ∷ [])) xs
 ended-one xs h = record { whole = refl; unbroken = h }
 
-ended-after : (xs : List ℕ) {line body : List ℕ} → free 10 xs ≡ true → Ended line body → Ended (xs ++ line) (xs ++ body)
+ended-after : (xs : List ℕ) {line body : List ℕ} → free 10 xs ≡ true → EndedLine line body → EndedLine (xs ++ line) (xs ++ body)
 ended-after xs {line} {body} h e = record { whole = ap (λ l. xs ++ l) (e .whole) ∙ sym (append-assoc xs body (10 ∷ [])); unbroken = free-append 10 xs body h (e .unbroken) }
 
-module _ {line body : List ℕ} (e : Ended line body) where
+module _ {line body : List ℕ} (e : EndedLine line body) where
   parts-ended : (rest : List ℕ) → parts 10 (line ++ rest) ≡ body ∷ parts 10 rest
   parts-ended rest = ap (λ l. parts 10 (l ++ rest)) (e .whole) ∙ ap (parts 10) (append-assoc body (10 ∷ []) rest) ∙ parts-first 10 body rest (e .unbroken)
 
@@ -48,7 +48,7 @@ unfoldable separate : ℕ → (ℕ → List ℕ) → List (List ℕ)
 separate zero text = []
 separate (suc n) text = separate n text ++ (text n ∷ [])
 
-parts-joined : (n : ℕ) (line body : ℕ → List ℕ) → ((i : ℕ) → Ended (line i) (body i)) → (rest : List ℕ) → parts 10 (joined n line ++ rest) ≡ separate n body ++ parts 10 rest
+parts-joined : (n : ℕ) (line body : ℕ → List ℕ) → ((i : ℕ) → EndedLine (line i) (body i)) → (rest : List ℕ) → parts 10 (joined n line ++ rest) ≡ separate n body ++ parts 10 rest
 unfolding joined separate
 parts-joined zero line body e rest = refl
 parts-joined (suc n) line body e rest =
@@ -69,14 +69,14 @@ ending-free Spent = refl
 abbrev resultBody : Trained → List ℕ
 resultBody trained = endingText (trained .ending) ++ (field (trained .steps) ++ (signedField (trained .lower) ++ signedField (trained .upper)))
 
-result-ended : (trained : Trained) → Ended (resultLine trained) (resultBody trained)
+result-ended : (trained : Trained) → EndedLine (resultLine trained) (resultBody trained)
 unfolding free resultLine
 result-ended trained =
     ended-after (endingText (trained .ending)) (ending-free (trained .ending))
     (ended-after (field (trained .steps)) (field-free (trained .steps))
     (ended-after (signedField (trained .lower)) (signed-free 10 (omega arith) (trained .lower)) (ended-one (signedField (trained .upper)) (signed-free 10 (omega arith) (trained .upper)))))
 
-refusal-ended : (number : ℕ) → Ended (refusalLine number) (refusedText ++ field number)
+refusal-ended : (number : ℕ) → EndedLine (refusalLine number) (refusedText ++ field number)
 unfolding free
 refusal-ended number = ended-after refusedText refl (ended-one (field number) (field-free number))
 
@@ -91,13 +91,13 @@ unfolding free
 sign-free LookedUp = refl
 sign-free PassedOver = refl
 
-item-ended : (shown : Shown) → Ended (itemLine shown) (itemBody shown)
+item-ended : (shown : Shown) → EndedLine (itemLine shown) (itemBody shown)
 unfolding itemLine
 item-ended shown =
     ended-after (decimal (shown .number)) (decimal-free 10 (omega arith) (shown .number))
     (ended-after (32 ∷ labelSign (shown .label) ∷ 32 ∷ []) (sign-free (shown .label)) (ended-one (decimal (shown .multiplier)) (decimal-free 10 (omega arith) (shown .multiplier))))
 
-total-ended : (totals : Totals) → Ended (totalLine totals) (totalBody totals)
+total-ended : (totals : Totals) → EndedLine (totalLine totals) (totalBody totals)
 unfolding free totalLine
 total-ended totals =
     ended-after totalText refl
