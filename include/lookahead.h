@@ -1,9 +1,11 @@
 /* The look-ahead trainer for C: reading a file, training on it, certifying
  * multipliers of it, and classifying a word by them.
  *
- * Any bytes and any numbers may be handed over. Every call answers 0, or the
- * number of the first refusal that it meets, in the order 1 to 9; on a refusal
- * nothing lent is changed, neither a list nor a single number.
+ * Any bytes and any numbers may be handed over. Every call answers a
+ * lookahead_answer: the number 0, or that of the first refusal that it meets.
+ * The tests come in the order 1, 2, then 3 and 16, where one walk along the
+ * chain finds whichever fault comes first on it, then 4, 5 and 6 to 9. On a
+ * refusal nothing lent is changed, neither a list nor a single number.
  *
  * What the caller sees to, for every call:
  * - a pointer is not null, also where its length is 0, and is aligned for its
@@ -28,19 +30,36 @@
  * long enough to train into. */
 #define LOOKAHEAD_MOST_ITEMS 256
 
-/* Refusals that whoever wrote the file can cause. Every call can answer them.
+/* What every call answers.
  *
- * LENGTH   under 32 bytes, more than 256 records, or a length that is not
- *          32 + 20 for each record
- * HEADER   a header field beyond its range, or a spare byte that is not 0
- * CHAIN    a next number over the number of records, or a chain that meets a
- *          record twice
- * RECORD   on the chain: a label other than 1 and 2, byte 3 not 0, a feature
- *          outside -127 to 127, or a feature past those in use that is not 0
- * LABELS   no item with one of the two labels, or no items at all */
+ * number  0, or the number of the refusal
+ * record  after refusals 3 and 16 the record whose next number is at fault, 1
+ *         to the number of records stored; otherwise 0, also after number 0
+ *
+ * That record is the one to open in a damaged log: record r stands at byte
+ * 32 + 20 * (r - 1) of the file, and its first two bytes, low byte first, are
+ * the next number at fault. */
+typedef struct {
+    uint8_t number;
+    uint16_t record;
+} lookahead_answer;
+
+/* Refusals that whoever wrote the file can cause. Every call can answer them.
+ * Records that are not on the chain are not judged, whatever they hold.
+ *
+ * LENGTH     under 32 bytes, more than 256 records, or a length that is not
+ *            32 + 20 for each record
+ * HEADER     a header field beyond its range, or a spare byte that is not 0
+ * NEXT_OVER  a next number over the number of records stored
+ * NEXT_MET   a next number that leads to a record already met, which may be
+ *            the record itself
+ * RECORD     on the chain: a label other than 1 and 2, byte 3 not 0, a feature
+ *            outside -127 to 127, or a feature past those in use that is not 0
+ * LABELS     no item with one of the two labels, or no items at all */
 #define LOOKAHEAD_REFUSED_LENGTH 1
 #define LOOKAHEAD_REFUSED_HEADER 2
-#define LOOKAHEAD_REFUSED_CHAIN 3
+#define LOOKAHEAD_REFUSED_NEXT_OVER 3
+#define LOOKAHEAD_REFUSED_NEXT_MET 16
 #define LOOKAHEAD_REFUSED_RECORD 4
 #define LOOKAHEAD_REFUSED_LABELS 5
 
@@ -116,16 +135,16 @@ extern "C" {
  * numbers. What stands in them beforehand does not matter. A table of
  * LOOKAHEAD_MOST_ITEMS places holds the whole order of every file.
  *
- * After 0: *items is n, *used the number of features in use, 1 to 16, and
- * *kernel LOOKAHEAD_LINEAR or LOOKAHEAD_SQUARE. The first n places of order,
- * or all of them where there are fewer, hold the numbers of the records on the
- * chain, in the chain's order, and later places what they held. Records are
- * numbered from 1.
+ * After number 0: *items is n, *used the number of features in use, 1 to 16,
+ * and *kernel LOOKAHEAD_LINEAR or LOOKAHEAD_SQUARE. The first n places of
+ * order, or all of them where there are fewer, hold the numbers of the records
+ * on the chain, in the chain's order, and later places what they held. Records
+ * are numbered from 1.
  *
- * Refusals: 1 to 5. All four lent things are then as they were. */
-uint8_t lookahead_read(const uint8_t *file, size_t file_len,
-                       uint16_t *order, size_t order_len,
-                       size_t *items, size_t *used, uint8_t *kernel);
+ * Refusals: 1 to 5 and 16. All four lent things are then as they were. */
+lookahead_answer lookahead_read(const uint8_t *file, size_t file_len,
+                                uint16_t *order, size_t order_len,
+                                size_t *items, size_t *used, uint8_t *kernel);
 
 /* Trains on a file, from multipliers that are all 0.
  *
@@ -133,19 +152,20 @@ uint8_t lookahead_read(const uint8_t *file, size_t file_len,
  * the two may differ), and the four single numbers. What stands in them
  * beforehand does not matter.
  *
- * After 0: the first n places of multipliers and of gradient hold the final
- * multipliers and G, in the chain's order, and later places what they held.
- * *ending is LOOKAHEAD_CONVERGED, LOOKAHEAD_STUCK or LOOKAHEAD_SPENT, *steps
- * the number of moves made, *lower and *upper the thresholds b_low and b_up.
+ * After number 0: the first n places of multipliers and of gradient hold the
+ * final multipliers and G, in the chain's order, and later places what they
+ * held. *ending is LOOKAHEAD_CONVERGED, LOOKAHEAD_STUCK or LOOKAHEAD_SPENT,
+ * *steps the number of moves made, *lower and *upper the thresholds b_low and
+ * b_up.
  *
  * lookahead_read answers n, and which record each of those places belongs to.
  *
- * Refusals: 1 to 6. All six lent things are then as they were. */
-uint8_t lookahead_train(const uint8_t *file, size_t file_len,
-                        uint32_t *multipliers, size_t multipliers_len,
-                        int64_t *gradient, size_t gradient_len,
-                        uint8_t *ending, uint32_t *steps,
-                        int64_t *lower, int64_t *upper);
+ * Refusals: 1 to 6 and 16. All six lent things are then as they were. */
+lookahead_answer lookahead_train(const uint8_t *file, size_t file_len,
+                                 uint32_t *multipliers, size_t multipliers_len,
+                                 int64_t *gradient, size_t gradient_len,
+                                 uint8_t *ending, uint32_t *steps,
+                                 int64_t *lower, int64_t *upper);
 
 /* Works out both thresholds of multipliers, wherever they come from. From the
  * thresholds follows how far the multipliers can be from the best ones: with g
@@ -163,26 +183,28 @@ uint8_t lookahead_train(const uint8_t *file, size_t file_len,
  * Handed over: exactly n multipliers, in the chain's order; so of a longer
  * list that was trained into, the first n places.
  *
- * After 0: *lower is b_low and *upper is b_up.
+ * After number 0: *lower is b_low and *upper is b_up.
  *
- * Refusals: 1 to 8. *lower and *upper are then as they were. */
-uint8_t lookahead_certify(const uint8_t *file, size_t file_len,
-                          const uint32_t *multipliers, size_t multipliers_len,
-                          int64_t *lower, int64_t *upper);
+ * Refusals: 1 to 8 and 16. *lower and *upper are then as they were. */
+lookahead_answer lookahead_certify(const uint8_t *file, size_t file_len,
+                                   const uint32_t *multipliers,
+                                   size_t multipliers_len,
+                                   int64_t *lower, int64_t *upper);
 
 /* Classifies a word by a file and multipliers of it.
  *
  * Handed over: exactly n multipliers, as for certifying, and a word of exactly
  * as many features as the file has in use, which lookahead_read answers.
  *
- * After 0: *class_answer is LOOKAHEAD_LOOKED_UP, LOOKAHEAD_PASSED_OVER or
- * LOOKAHEAD_UNDECIDED.
+ * After number 0: *class_answer is LOOKAHEAD_LOOKED_UP, LOOKAHEAD_PASSED_OVER
+ * or LOOKAHEAD_UNDECIDED.
  *
- * Refusals: 1 to 9. *class_answer is then as it was. */
-uint8_t lookahead_classify(const uint8_t *file, size_t file_len,
-                           const uint32_t *multipliers, size_t multipliers_len,
-                           const int8_t *word, size_t word_len,
-                           uint8_t *class_answer);
+ * Refusals: 1 to 9 and 16. *class_answer is then as it was. */
+lookahead_answer lookahead_classify(const uint8_t *file, size_t file_len,
+                                    const uint32_t *multipliers,
+                                    size_t multipliers_len,
+                                    const int8_t *word, size_t word_len,
+                                    uint8_t *class_answer);
 
 #ifdef __cplusplus
 }

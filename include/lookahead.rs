@@ -1,13 +1,21 @@
-//! The library's calls and the numbers that they answer, declared for Rust.
-//! `lookahead.h` beside this file explains them: lists, refusals, kernels,
-//! endings and classes.
+//! The library's calls and what they answer, declared for Rust. `lookahead.h`
+//! beside this file explains them: lists, refusals with the record to open,
+//! kernels, endings and classes.
 #![allow(dead_code)]
 
 pub const LOOKAHEAD_MOST_ITEMS: usize = 256;
 
+#[repr(C)]
+#[derive(Clone, Copy, Debug, PartialEq, Eq)]
+pub struct LookaheadAnswer {
+    pub number: u8,
+    pub record: u16,
+}
+
 pub const LOOKAHEAD_REFUSED_LENGTH: u8 = 1;
 pub const LOOKAHEAD_REFUSED_HEADER: u8 = 2;
-pub const LOOKAHEAD_REFUSED_CHAIN: u8 = 3;
+pub const LOOKAHEAD_REFUSED_NEXT_OVER: u8 = 3;
+pub const LOOKAHEAD_REFUSED_NEXT_MET: u8 = 16;
 pub const LOOKAHEAD_REFUSED_RECORD: u8 = 4;
 pub const LOOKAHEAD_REFUSED_LABELS: u8 = 5;
 pub const LOOKAHEAD_REFUSED_COUNT: u8 = 6;
@@ -35,7 +43,7 @@ extern "C" {
         items: *mut usize,
         used: *mut usize,
         kernel: *mut u8,
-    ) -> u8;
+    ) -> LookaheadAnswer;
     pub fn lookahead_train(
         file: *const u8,
         file_len: usize,
@@ -47,7 +55,7 @@ extern "C" {
         steps: *mut u32,
         lower: *mut i64,
         upper: *mut i64,
-    ) -> u8;
+    ) -> LookaheadAnswer;
     pub fn lookahead_certify(
         file: *const u8,
         file_len: usize,
@@ -55,7 +63,7 @@ extern "C" {
         multipliers_len: usize,
         lower: *mut i64,
         upper: *mut i64,
-    ) -> u8;
+    ) -> LookaheadAnswer;
     pub fn lookahead_classify(
         file: *const u8,
         file_len: usize,
@@ -64,5 +72,5 @@ extern "C" {
         word: *const i8,
         word_len: usize,
         class: *mut u8,
-    ) -> u8;
+    ) -> LookaheadAnswer;
 }

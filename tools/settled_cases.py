@@ -1,6 +1,7 @@
 """Writes document 01's settled examples P1 to P12 for crates/settled_test: what it is run on, and the results settled there, of P12's
-second half those of document 02, (e). E1 to E3 are our own examples of that request. Three words follow that document 01 has run only:
-W1 to W3, with the highest feature, the lowest, and one below it.
+second half those of document 02, (e). E1 to E3 are our own examples of that request, and K1 to K4 of request (k). Three words follow that
+document 01 has run only: W1 to W3, with the highest feature, the lowest, and one below it. A refusal is its number and its record, 0 where
+it carries none.
 
 Nothing is worked out here. What the document leaves out of a result, as the thresholds of P4, is as the theorem `settled` has it
 (crates/lookahead/specs/Settled.antt).
@@ -15,12 +16,12 @@ import struct
 TRAIN, CERTIFY, CLASSIFY = 0, 1, 2
 
 
-def file(items, kernel=0, S=10, c=100, t=0, budget=50):
-    """d 1, and the items by label and feature, chained in that order."""
+def file(items, follows=None, kernel=0, S=10, c=100, t=0, budget=50):
+    """d 1, and the items by label and feature, chained in that order, or by the next numbers given."""
+    follows = follows or [*range(2, len(items) + 1), 0]
     data = struct.pack("<HHBBHIIQII", len(items), 1, 1, kernel, 0, S, c, t, budget, 0)
-    for number, (label, feature) in enumerate(items, 1):
-        follows = number + 1 if number < len(items) else 0
-        data += struct.pack("<HBBb15x", follows, label, 0, feature)
+    for (label, feature), number in zip(items, follows):
+        data += struct.pack("<HBBb15x", number, label, 0, feature)
     return data
 
 
@@ -32,6 +33,7 @@ def plus_minus(**parameters):
 BOTH_ONE = file([(1, 1), (2, 1)], c=7)
 THREE = file([(1, 10), (2, -10), (2, 10)], S=1, c=2)
 UNEVEN = file([(1, 1), (2, 0)], S=1, c=10)
+TAIL_INTO_CYCLE = file([(9, 10), (2, -10), (2, 10)], follows=[2, 3, 2], S=1, c=2)
 
 # Name, kind, file, multipliers, feature; the result. Training is lent 9s, so that what it leaves alone shows.
 CASES = [
@@ -45,16 +47,20 @@ CASES = [
     ("P8", TRAIN, plus_minus(kernel=1, S=16), (9, 9, 9), 0, "converged 1, thresholds 0 0, multipliers 4 4 9"),
     ("P9", TRAIN, THREE, (9, 9, 9), 0, "converged 1, thresholds 1 1, multipliers 2 0 2"),
     ("P10", CERTIFY, plus_minus(), (0, 0, 0), 0, "thresholds 10 -10"),
-    ("P11", CERTIFY, plus_minus(), (5, 4, 0), 0, "refused 8"),
-    ("P11", CERTIFY, plus_minus(), (101, 100, 0), 0, "refused 7"),
+    ("P11", CERTIFY, plus_minus(), (5, 4, 0), 0, "refused 8 0"),
+    ("P11", CERTIFY, plus_minus(), (101, 100, 0), 0, "refused 7 0"),
     ("P12", CLASSIFY, plus_minus(), (5, 5, 0), 3, "looked up"),
     ("P12", CLASSIFY, plus_minus(), (5, 5, 0), 0, "undecided"),
     ("E1", CLASSIFY, plus_minus(), (0, 0, 0), 3, "undecided"),
     ("E2", CLASSIFY, UNEVEN, (1, 1, 0), 0, "passed over"),
     ("E3", CLASSIFY, UNEVEN, (1, 1, 0), 1, "looked up"),
+    ("K1", TRAIN, plus_minus(follows=[2, 1]), (9, 9, 9), 0, "refused 16 2, multipliers 9 9 9"),
+    ("K2", TRAIN, plus_minus(follows=[1, 0]), (9, 9, 9), 0, "refused 16 1, multipliers 9 9 9"),
+    ("K3", TRAIN, plus_minus(follows=[2, 3]), (9, 9, 9), 0, "refused 3 2, multipliers 9 9 9"),
+    ("K4", TRAIN, TAIL_INTO_CYCLE, (9, 9, 9), 0, "refused 16 3, multipliers 9 9 9"),
     ("W1", CLASSIFY, plus_minus(), (5, 5, 0), 127, "looked up"),
     ("W2", CLASSIFY, plus_minus(), (5, 5, 0), -127, "passed over"),
-    ("W3", CLASSIFY, plus_minus(), (5, 5, 0), -128, "refused 9"),
+    ("W3", CLASSIFY, plus_minus(), (5, 5, 0), -128, "refused 9 0"),
 ]
 
 

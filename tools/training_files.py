@@ -1,9 +1,10 @@
 """Writes training files and what a reader of document 01 makes of each, for crates/reading_test: its stdin and its stdout.
 
 First come document 01's edge cases, each with a name, most of them one change to its sample; then files drawn at random, with one
-or more faults or none. The reader below is written from document 01 alone: it is the other implementation that the library's is
-held to. The stdin has an entry for each file: the length of its name in one byte and the name; in two bytes, least first, how many
-places of an order table are lent; its length in two bytes, and its bytes.
+or more faults or none. The reader below is written from documents 01 and 02 alone: it is the other implementation that the library's
+is held to. A refusal is its number and its record, 0 where it carries none. The stdin has an entry for each file: the length of its
+name in one byte and the name; in two bytes, least first, how many places of an order table are lent; its length in two bytes, and its
+bytes.
 Run it in the repository's folder: python3 tools/training_files.py
 """
 
@@ -13,37 +14,76 @@ import struct
 # The ends of a feature's range.
 LOWEST, HIGHEST = -127, 127
 
+# Where the fields are in a file, and in a record.
+M, FIRST, D, KERNEL, SPARE, S, C, T, BUDGET, SPARE_END = 0, 2, 4, 5, 6, 8, 12, 16, 24, 28
+NEXT, LABEL, ZERO, FEATURE = 0, 2, 3, 4
+
+
+def start(number):
+    """Where a record begins."""
+    return 32 + 20 * (number - 1)
+
+
+class Refused(Exception):
+    """With the number, and the record for 3 and 16."""
+
+    def __init__(self, number, record=0):
+        super().__init__("refused %d %d" % (number, record))
+
 
 def read(file):
     """The answer, and the record numbers in chain order, none where the file is refused."""
+    try:
+        order = read_order(file)
+    except Refused as refused:
+        return str(refused), []
+    return "accepted %d" % len(order), order
+
+
+def read_order(file):
+    m, d = judge_header(file)
+    order = walk(file, m)
+    for number in order:
+        judge_record(file, number, d)
+    if len({file[start(number) + LABEL] for number in order}) < 2:
+        raise Refused(5)
+    return order
+
+
+def judge_header(file):
+    """m and d."""
     if len(file) < 32:
-        return "refused 1", []
+        raise Refused(1)
     m, first, d, kernel, spare = struct.unpack_from("<HHBBH", file, 0)
     grid, ceiling, tolerance, budget, spare_end = struct.unpack_from("<IIQII", file, 8)
-    if m > 256 or len(file) != 32 + 20 * m:
-        return "refused 1", []
+    if m > 256 or len(file) != start(m + 1):
+        raise Refused(1)
     if first > m or not 1 <= d <= 16 or kernel > 1 or spare or spare_end:
-        return "refused 2", []
+        raise Refused(2)
     if not 1 <= grid <= 1048576 or not 1 <= ceiling <= 65536 or tolerance > 10**12 or budget > 1000000:
-        return "refused 2", []
+        raise Refused(2)
+    return m, d
+
+
+def walk(file, m):
+    """The numbers of the chained records. A record's next number is judged when the record is met."""
     met = []
-    number = first
+    (number,) = struct.unpack_from("<H", file, FIRST)
     while number:
-        if number > m or number in met:
-            return "refused 3", []
         met.append(number)
-        (number,) = struct.unpack_from("<H", file, 32 + 20 * (number - 1))
-    labels = set()
-    for number in met:
-        at = 32 + 20 * (number - 1)
-        label, zero = file[at + 2], file[at + 3]
-        features = struct.unpack_from("<16b", file, at + 4)
-        if label not in (1, 2) or zero or any(not LOWEST <= f <= HIGHEST for f in features) or any(features[d:]):
-            return "refused 4", []
-        labels.add(label)
-    if len(labels) < 2:
-        return "refused 5", []
-    return "accepted %d" % len(met), met
+        (follows,) = struct.unpack_from("<H", file, start(number) + NEXT)
+        if follows > m:
+            raise Refused(3, number)
+        if follows in met:
+            raise Refused(16, number)
+        number = follows
+    return met
+
+
+def judge_record(file, number, d):
+    label, zero, *features = struct.unpack_from("<BB16b", file, start(number) + LABEL)
+    if label not in (1, 2) or zero or any(not LOWEST <= f <= HIGHEST for f in features) or any(features[d:]):
+        raise Refused(4)
 
 
 def header(m, first):
@@ -65,10 +105,7 @@ def chain(m):
 # holds bytes that a record on the chain may not.
 SAMPLE = header(3, 3) + record(0, 2, -1) + record(200, 7, 200) + record(1, 1, 1)
 
-# Where the fields are in a file, the records in the sample, and the fields in a record.
-M, FIRST, D, KERNEL, SPARE, S, C, T, BUDGET, SPARE_END = 0, 2, 4, 5, 6, 8, 12, 16, 24, 28
-RECORD_1, RECORD_3 = 32, 72
-NEXT, LABEL, ZERO, FEATURE = 0, 2, 3, 4
+RECORD_1, RECORD_2, RECORD_3, RECORD_256 = start(1), start(2), start(3), start(256)
 
 
 def put(at, value, width=1, file=SAMPLE):
@@ -106,10 +143,16 @@ EDGE_CASES = [
     ("budget 1000001", put(BUDGET, 1000001, 4)),
     ("next 4, m 3", put(RECORD_3 + NEXT, 4, 2)),
     ("next 257, m 3", put(RECORD_3 + NEXT, 257, 2)),
-    ("a record its own next", put(RECORD_3 + NEXT, 3, 2)),
-    ("two records in a ring", put(RECORD_1 + NEXT, 3, 2)),
-    ("a ring, and a wrong label", put(RECORD_3, 0x01090003, 4)),
-    ("the spare record next", put(RECORD_3 + NEXT, 2, 2)),
+    ("next 65535, m 3", put(RECORD_3 + NEXT, 65535, 2)),
+    ("next 4 of the last record, m 3", put(RECORD_1 + NEXT, 4, 2)),
+    ("next 4, and a wrong label", put(RECORD_3, 0x01090004, 4)),
+    ("the spare record next, its next 200", put(RECORD_3 + NEXT, 2, 2)),
+    ("the first record its own next", put(RECORD_3 + NEXT, 3, 2)),
+    ("the last record its own next", put(RECORD_1 + NEXT, 1, 2)),
+    ("the last record's next the first", put(RECORD_1 + NEXT, 3, 2)),
+    ("a tail into a cycle", put(RECORD_1 + NEXT, 2, 2, put(RECORD_2 + NEXT, 1, 2))),
+    ("a record its own next, and a wrong label", put(RECORD_3, 0x01090003, 4)),
+    ("the spare record its own next", put(RECORD_2 + NEXT, 2, 2)),
     ("label 0", put(RECORD_3 + LABEL, 0)),
     ("label 3", put(RECORD_1 + LABEL, 3)),
     ("byte 3 not 0", put(RECORD_3 + ZERO, 1)),
@@ -122,7 +165,8 @@ EDGE_CASES = [
     ("all passed over", put(RECORD_3 + LABEL, 2)),
     ("an empty chain", put(FIRST, 0)),
     ("m 256, n 256", chain(256)),
-    ("m 256, the last record's next the first", put(32 + 20 * 255 + NEXT, 1, 2, chain(256))),
+    ("m 256, the last record's next the first", put(RECORD_256 + NEXT, 1, 2, chain(256))),
+    ("m 256, the last record's next 257", put(RECORD_256 + NEXT, 257, 2, chain(256))),
     ("m 257", chain(257)),
 ]
 
@@ -159,16 +203,16 @@ def draw(pick):
         follows = order[place + 1] if place + 1 < len(order) else 0
         features = [pick.choice([LOWEST, -1, 0, 1, HIGHEST, pick.randint(LOWEST, HIGHEST)]) if i < d else 0 for i in range(16)]
         label = place % 2 + 1 if pick.random() < 0.9 else pick.randint(1, 2)
-        struct.pack_into("<HBB16b", file, 32 + 20 * (number - 1), follows, label, 0, *features)
+        struct.pack_into("<HBB16b", file, start(number), follows, label, 0, *features)
     for _ in range(pick.choice([0, 0, 1, 1, 1, 2])):
         kind = pick.randrange(4)
         if kind == 0:
             file[pick.randrange(32)] = pick.choice([0, 1, 2, 3, 17, 255])
         elif kind == 1 and order:
-            at = 32 + 20 * (pick.choice(order) - 1)
+            at = start(pick.choice(order))
             file[at + pick.randrange(20)] = pick.choice([0, 1, 2, 3, 126, 127, 128, 129, 130, 255])
         elif kind == 2 and order:
-            struct.pack_into("<H", file, 32 + 20 * (pick.choice(order) - 1), pick.randint(0, m + 1))
+            struct.pack_into("<H", file, start(pick.choice(order)), pick.randint(0, m + 1))
         elif kind == 3 and pick.random() < 0.3:
             file = file[: pick.randrange(len(file) + 1)] if pick.random() < 0.5 else file + b"\0"
             break

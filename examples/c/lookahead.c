@@ -1,9 +1,11 @@
 /* Reads a small file, trains on it, certifies the result and classifies words:
  * a plain one, one exactly on the line, those with the highest and the lowest
- * feature, and one with a feature that none may have. */
+ * feature, and one with a feature that none may have. Then it reads the file
+ * with a damaged chain, and says which record to open. */
 #include <inttypes.h>
 #include <stdbool.h>
 #include <stdio.h>
+#include <string.h>
 
 #include "../../include/lookahead.h"
 
@@ -18,6 +20,11 @@ typedef struct {
     uint16_t order[LOOKAHEAD_MOST_ITEMS];
     uint32_t multipliers[LOOKAHEAD_MOST_ITEMS];
 } Model;
+
+/* Where a record begins; records are numbered from 1. */
+static size_t start(uint16_t record) {
+    return HEADER + (record - 1u) * RECORD;
+}
 
 /* A field of so many bytes, low byte first. */
 static void put(uint8_t *at, uint64_t value, int bytes) {
@@ -43,8 +50,8 @@ static void put_file(uint8_t file[FILE_LENGTH]) {
     put(file + 8, 10, 4);   /* grid units per 1 */
     put(file + 12, 100, 4); /* ceiling of a multiplier */
     put(file + 24, 50, 4);  /* step budget */
-    put_record(file + HEADER, 0, WAS_PASSED_OVER, -1);
-    put_record(file + HEADER + 2 * RECORD, 1, WAS_LOOKED_UP, 1);
+    put_record(file + start(1), 0, WAS_PASSED_OVER, -1);
+    put_record(file + start(3), 1, WAS_LOOKED_UP, 1);
 }
 
 static const char *ending_name(uint8_t ending) {
@@ -69,17 +76,31 @@ static const char *class_name(uint8_t class_answer) {
     }
 }
 
-/* Whether reading refused nothing, so that there are items to train on. */
+/* Whether a call refused. If so, ends the line with the refusal, and with the
+ * record to open where it has one. */
+static bool refused(lookahead_answer answer) {
+    if (answer.number == 0) {
+        return false;
+    }
+    printf("refused with %d", answer.number);
+    if (answer.record != 0) {
+        printf(", open record %d", answer.record);
+    }
+    printf("\n");
+    return true;
+}
+
+/* Ends the line with what was read. Whether reading refused nothing, so that
+ * there are items to train on. */
 static bool read_items(const uint8_t *file, Model *model) {
     size_t used;
     uint8_t kernel;
-    uint8_t refusal = lookahead_read(file, FILE_LENGTH, model->order, LOOKAHEAD_MOST_ITEMS,
-                                     &model->items, &used, &kernel);
-    if (refusal != 0) {
-        printf("read: refused with %d\n", refusal);
+    lookahead_answer answer = lookahead_read(file, FILE_LENGTH, model->order, LOOKAHEAD_MOST_ITEMS,
+                                             &model->items, &used, &kernel);
+    if (refused(answer)) {
         return false;
     }
-    printf("read: items %zu, features %zu, kernel %s\n", model->items, used,
+    printf("items %zu, features %zu, kernel %s\n", model->items, used,
            kernel == LOOKAHEAD_LINEAR ? "linear" : "square");
     return true;
 }
@@ -92,7 +113,7 @@ static void print_total(const uint8_t *file, const Model *model) {
     uint64_t looked_up = 0, passed_over = 0;
     for (size_t i = 0; i < model->items; i++) {
         uint32_t multiplier = model->multipliers[i];
-        if (file[HEADER + (model->order[i] - 1) * RECORD + 2] == WAS_LOOKED_UP) {
+        if (file[start(model->order[i]) + 2] == WAS_LOOKED_UP) {
             looked_up += multiplier;
         } else {
             passed_over += multiplier;
@@ -107,14 +128,14 @@ static bool train(const uint8_t *file, Model *model) {
     int64_t gradient[LOOKAHEAD_MOST_ITEMS], lower, upper;
     uint32_t steps;
     uint8_t ending;
-    uint8_t refusal = lookahead_train(file, FILE_LENGTH, model->multipliers, model->items,
-                                      gradient, model->items, &ending, &steps, &lower, &upper);
-    if (refusal != 0) {
-        printf("train: refused with %d\n", refusal);
+    lookahead_answer answer =
+        lookahead_train(file, FILE_LENGTH, model->multipliers, model->items, gradient,
+                        model->items, &ending, &steps, &lower, &upper);
+    printf("train: ");
+    if (refused(answer)) {
         return false;
     }
-    printf("train: %s after %" PRIu32 " %s\n", ending_name(ending), steps,
-           steps == 1 ? "step" : "steps");
+    printf("%s after %" PRIu32 " %s\n", ending_name(ending), steps, steps == 1 ? "step" : "steps");
     for (size_t i = 0; i < model->items; i++) {
         printf("record %d: multiplier %" PRIu32 "\n", model->order[i], model->multipliers[i]);
     }
@@ -126,23 +147,32 @@ static bool train(const uint8_t *file, Model *model) {
 static void certify(const uint8_t *file, const char *call, const uint32_t *multipliers,
                     size_t count) {
     int64_t lower, upper;
-    uint8_t refusal = lookahead_certify(file, FILE_LENGTH, multipliers, count, &lower, &upper);
-    if (refusal != 0) {
-        printf("%s: refused with %d\n", call, refusal);
-        return;
+    lookahead_answer answer =
+        lookahead_certify(file, FILE_LENGTH, multipliers, count, &lower, &upper);
+    printf("%s: ", call);
+    if (!refused(answer)) {
+        printf("lower %" PRId64 ", upper %" PRId64 "\n", lower, upper);
     }
-    printf("%s: lower %" PRId64 ", upper %" PRId64 "\n", call, lower, upper);
 }
 
 static void classify(const uint8_t *file, const Model *model, int8_t feature) {
     uint8_t class_answer;
-    uint8_t refusal = lookahead_classify(file, FILE_LENGTH, model->multipliers, model->items,
-                                         &feature, 1, &class_answer);
-    if (refusal != 0) {
-        printf("classify %d: refused with %d\n", feature, refusal);
-        return;
+    lookahead_answer answer = lookahead_classify(file, FILE_LENGTH, model->multipliers,
+                                                 model->items, &feature, 1, &class_answer);
+    printf("classify %d: ", feature);
+    if (!refused(answer)) {
+        printf("%s\n", class_name(class_answer));
     }
-    printf("classify %d: %s\n", feature, class_name(class_answer));
+}
+
+/* Reads the file with another next number in one of its records. */
+static void read_damaged(const uint8_t *file, uint16_t record, uint16_t next) {
+    uint8_t damaged[FILE_LENGTH];
+    Model model;
+    memcpy(damaged, file, FILE_LENGTH);
+    put(damaged + start(record), next, 2);
+    printf("record %d leads to %d: ", record, next);
+    read_items(damaged, &model);
 }
 
 int main(void) {
@@ -150,6 +180,7 @@ int main(void) {
     const uint32_t unbalanced[] = {5, 4};
     Model model;
     put_file(file);
+    printf("read: ");
     if (!read_items(file, &model) || !train(file, &model)) {
         return 1;
     }
@@ -160,5 +191,7 @@ int main(void) {
     classify(file, &model, -127);
     classify(file, &model, -128);
     certify(file, "certify 5 4", unbalanced, 2);
+    read_damaged(file, 1, 3);
+    read_damaged(file, 3, 4);
     return 0;
 }

@@ -1,6 +1,7 @@
 //! Reads a small file, trains on it, certifies the result and classifies words:
 //! a plain one, one exactly on the line, those with the highest and the lowest
-//! feature, and one with a feature that none may have.
+//! feature, and one with a feature that none may have. Then it reads the file
+//! with a damaged chain, and says which record to open.
 
 #[path = "../../include/lookahead.rs"]
 mod declared;
@@ -9,16 +10,31 @@ mod declared;
 /// and what a call writes is a place of its own.
 mod lookahead {
     use super::declared::{
-        lookahead_certify, lookahead_classify, lookahead_read, lookahead_train,
+        lookahead_certify, lookahead_classify, lookahead_read, lookahead_train, LookaheadAnswer,
         LOOKAHEAD_CONVERGED, LOOKAHEAD_LINEAR, LOOKAHEAD_LOOKED_UP, LOOKAHEAD_PASSED_OVER,
         LOOKAHEAD_STUCK,
     };
+    use std::fmt;
 
     pub use super::declared::LOOKAHEAD_MOST_ITEMS as MOST_ITEMS;
 
-    /// The number of a refusal, 1 to 9; include/lookahead.h says what each means.
+    /// The number of a refusal, which include/lookahead.h explains, and for the
+    /// two faults of a chain the record to open.
     #[derive(Debug)]
-    pub struct Refusal(pub u8);
+    pub struct Refusal {
+        pub number: u8,
+        pub record: Option<u16>,
+    }
+
+    impl fmt::Display for Refusal {
+        fn fmt(&self, out: &mut fmt::Formatter) -> fmt::Result {
+            write!(out, "refused with {}", self.number)?;
+            match self.record {
+                None => Ok(()),
+                Some(record) => write!(out, ", open record {record}"),
+            }
+        }
+    }
 
     pub enum Kernel {
         Linear,
@@ -55,11 +71,15 @@ mod lookahead {
         Undecided,
     }
 
-    fn unless_refused<T>(number: u8, answer: T) -> Result<T, Refusal> {
-        match number {
-            0 => Ok(answer),
-            refusal => Err(Refusal(refusal)),
+    fn unless_refused<T>(answer: LookaheadAnswer, found: T) -> Result<T, Refusal> {
+        let LookaheadAnswer { number, record } = answer;
+        if number == 0 {
+            return Ok(found);
         }
+        Err(Refusal {
+            number,
+            record: Some(record).filter(|&record| record != 0),
+        })
     }
 
     /// Fills the first places of the table with record numbers, one for each
@@ -67,7 +87,7 @@ mod lookahead {
     pub fn read(file: &[u8], order: &mut [u16]) -> Result<Contents, Refusal> {
         let (mut items, mut used, mut kernel) = (0, 0, 0);
         // SAFETY: every pointer is a reference's, and comes with its slice's length.
-        let number = unsafe {
+        let answer = unsafe {
             lookahead_read(
                 file.as_ptr(),
                 file.len(),
@@ -83,7 +103,7 @@ mod lookahead {
             _ => Kernel::Square,
         };
         unless_refused(
-            number,
+            answer,
             Contents {
                 items,
                 used,
@@ -101,7 +121,7 @@ mod lookahead {
         let (mut ending, mut steps) = (0, 0);
         let mut thresholds = Thresholds::default();
         // SAFETY: as in `read`.
-        let number = unsafe {
+        let answer = unsafe {
             lookahead_train(
                 file.as_ptr(),
                 file.len(),
@@ -121,7 +141,7 @@ mod lookahead {
             _ => Ending::Spent,
         };
         unless_refused(
-            number,
+            answer,
             Trained {
                 ending,
                 steps,
@@ -133,7 +153,7 @@ mod lookahead {
     pub fn certify(file: &[u8], multipliers: &[u32]) -> Result<Thresholds, Refusal> {
         let mut thresholds = Thresholds::default();
         // SAFETY: as in `read`.
-        let number = unsafe {
+        let answer = unsafe {
             lookahead_certify(
                 file.as_ptr(),
                 file.len(),
@@ -143,13 +163,13 @@ mod lookahead {
                 &mut thresholds.upper,
             )
         };
-        unless_refused(number, thresholds)
+        unless_refused(answer, thresholds)
     }
 
     pub fn classify(file: &[u8], multipliers: &[u32], word: &[i8]) -> Result<Class, Refusal> {
         let mut class = 0;
         // SAFETY: as in `read`.
-        let number = unsafe {
+        let answer = unsafe {
             lookahead_classify(
                 file.as_ptr(),
                 file.len(),
@@ -165,7 +185,7 @@ mod lookahead {
             LOOKAHEAD_PASSED_OVER => Class::PassedOver,
             _ => Class::Undecided,
         };
-        unless_refused(number, class)
+        unless_refused(answer, class)
     }
 }
 
@@ -199,6 +219,11 @@ fn record(next: u16, label: u8, feature: i8) -> [u8; 20] {
     record
 }
 
+/// Where a record begins; records are numbered from 1.
+fn start(record: u16) -> usize {
+    32 + 20 * (usize::from(record) - 1)
+}
+
 fn ending_name(ending: Ending) -> &'static str {
     match ending {
         Ending::Converged => "converged",
@@ -210,7 +235,7 @@ fn ending_name(ending: Ending) -> &'static str {
 fn print_certified(call: &str, file: &[u8], multipliers: &[u32]) {
     match lookahead::certify(file, multipliers) {
         Ok(found) => println!("{call}: lower {}, upper {}", found.lower, found.upper),
-        Err(Refusal(number)) => println!("{call}: refused with {number}"),
+        Err(refusal) => println!("{call}: {refusal}"),
     }
 }
 
@@ -219,7 +244,7 @@ fn print_class(file: &[u8], multipliers: &[u32], feature: i8) {
         Ok(Class::LookedUp) => println!("classify {feature}: looked up"),
         Ok(Class::PassedOver) => println!("classify {feature}: passed over"),
         Ok(Class::Undecided) => println!("classify {feature}: undecided"),
-        Err(Refusal(number)) => println!("classify {feature}: refused with {number}"),
+        Err(refusal) => println!("classify {feature}: {refusal}"),
     }
 }
 
@@ -227,7 +252,7 @@ fn print_class(file: &[u8], multipliers: &[u32], feature: i8) {
 /// above 0, and their sums over the items looked up and over those passed over,
 /// which are equal. An item's label is byte 2 of its record.
 fn print_total(file: &[u8], order: &[u16], multipliers: &[u32]) {
-    let label = |record: u16| file[32 + 20 * (usize::from(record) - 1) + 2];
+    let label = |record: u16| file[start(record) + 2];
     let sum = |labelled: u8| -> u64 {
         let items = order.iter().zip(multipliers);
         let of_label = items.filter(|item| label(*item.0) == labelled);
@@ -237,22 +262,33 @@ fn print_total(file: &[u8], order: &[u16], multipliers: &[u32]) {
     println!("total {above_zero} {} {}", sum(1), sum(2));
 }
 
-fn print_contents(read: &Contents) {
+fn print_contents(call: &str, read: &Contents) {
     let kernel = match read.kernel {
         Kernel::Linear => "linear",
         Kernel::Square => "square",
     };
     println!(
-        "read: items {}, features {}, kernel {kernel}",
+        "{call}: items {}, features {}, kernel {kernel}",
         read.items, read.used
     );
+}
+
+/// Reads the file with another next number in one of its records.
+fn print_damaged(file: &[u8], record: u16, next: u16) {
+    let mut damaged = file.to_vec();
+    damaged[start(record)..][..2].copy_from_slice(&next.to_le_bytes());
+    let call = format!("record {record} leads to {next}");
+    match lookahead::read(&damaged, &mut []) {
+        Ok(read) => print_contents(&call, &read),
+        Err(refusal) => println!("{call}: {refusal}"),
+    }
 }
 
 fn main() -> Result<(), Refusal> {
     let file = small_file();
     let mut order = [0; lookahead::MOST_ITEMS];
     let read = lookahead::read(&file, &mut order)?;
-    print_contents(&read);
+    print_contents("read", &read);
     let (mut multipliers, mut gradient) = (vec![0; read.items], vec![0; read.items]);
     let trained = lookahead::train(&file, &mut multipliers, &mut gradient)?;
     let unit = if trained.steps == 1 { "step" } else { "steps" };
@@ -274,5 +310,7 @@ fn main() -> Result<(), Refusal> {
     print_class(&file, &multipliers, -127);
     print_class(&file, &multipliers, -128);
     print_certified("certify 5 4", &file, &[5, 4]);
+    print_damaged(&file, 1, 3);
+    print_damaged(&file, 3, 4);
     Ok(())
 }

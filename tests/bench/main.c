@@ -30,12 +30,14 @@ static const Calls PLAIN = {plain_read, plain_train, plain_certify, plain_classi
 static uint8_t file[PLACES];
 static size_t length;
 
+/* Number and record apart: what a lookahead_answer holds between them may be anything, and answers are compared byte by byte. */
 typedef struct {
     size_t items, used;
     uint16_t order[LOOKAHEAD_MOST_ITEMS];
     uint32_t multipliers[LOOKAHEAD_MOST_ITEMS];
     int64_t gradient[LOOKAHEAD_MOST_ITEMS];
     uint8_t refusal, kernel, ending, class;
+    uint16_t record;
     uint32_t steps;
     int64_t lower, upper;
 } Answer;
@@ -43,15 +45,18 @@ typedef struct {
 static const int8_t *word(void) { return (const int8_t *)file + 36; }
 
 static void make(const Calls *by, int call, Answer *x) {
+    lookahead_answer answer;
     if (call == 0)
-        x->refusal = by->read(file, length, x->order, LOOKAHEAD_MOST_ITEMS, &x->items, &x->used, &x->kernel);
+        answer = by->read(file, length, x->order, LOOKAHEAD_MOST_ITEMS, &x->items, &x->used, &x->kernel);
     else if (call == 1)
-        x->refusal = by->train(file, length, x->multipliers, LOOKAHEAD_MOST_ITEMS, x->gradient, LOOKAHEAD_MOST_ITEMS,
-                               &x->ending, &x->steps, &x->lower, &x->upper);
+        answer = by->train(file, length, x->multipliers, LOOKAHEAD_MOST_ITEMS, x->gradient, LOOKAHEAD_MOST_ITEMS,
+                           &x->ending, &x->steps, &x->lower, &x->upper);
     else if (call == 2)
-        x->refusal = by->certify(file, length, x->multipliers, x->items, &x->lower, &x->upper);
+        answer = by->certify(file, length, x->multipliers, x->items, &x->lower, &x->upper);
     else
-        x->refusal = by->classify(file, length, x->multipliers, x->items, word(), x->used, &x->class);
+        answer = by->classify(file, length, x->multipliers, x->items, word(), x->used, &x->class);
+    x->refusal = answer.number;
+    x->record = answer.record;
 }
 
 static double seconds(const Calls *by, int call, Answer *x, long times) {
@@ -89,7 +94,7 @@ static int same_answers(Answer *x, Answer *z) {
     for (int call = 0; call < CALLS; call++) {
         make(&LIBRARY, call, x);
         make(&PLAIN, call, z);
-        if (x->refusal != 0 || z->refusal != 0) return x->refusal == z->refusal;
+        if (x->refusal != 0 || z->refusal != 0) return x->refusal == z->refusal && x->record == z->record;
     }
     return memcmp(x, z, sizeof *x) == 0;
 }

@@ -3,7 +3,6 @@
 pub mod Laws
 use mathlib.Core.List.{List}
 use Prim.Native.Nat.{ℕ}
-use Rattle.training_file.specs.Refusal.{refusal}
 use Rattle.reading.specs.Reading.{Reading, refused, accepted, reading}
 use Rattle.dual_problem.specs.Problem.{BoundedDistance, Problem, bLow, bUp, problem}
 use Rattle.dual_problem.specs.Items.{at}
@@ -28,7 +27,7 @@ certifyItems P a = certifyJudged P a (judgement P a)
 
 -- "The first refusal met ends the call": those of the file, then those of the multipliers
 abbrev pub certifyRead : Reading → List ℕ → Certified
-certifyRead (refused number) a = Refused (refusal number)
+certifyRead (refused why) a = Refused why
 certifyRead (accepted p order items) a = certifyItems (problem p items) a
 
 abbrev pub certifying : List ℕ → List ℕ → Certified
@@ -36,6 +35,6 @@ certifying file a = certifyRead (reading file) a
 
 -- Demand 3, "the same holds for any multipliers that certifying accepts, whatever their source, with the thresholds that it answers"
 abbrev pub CertifiedDistance : Reading → List ℕ → Certified → Type 0
-CertifiedDistance (refused number) a answer = Unit {0}
+CertifiedDistance (refused why) a answer = Unit {0}
 CertifiedDistance (accepted p order items) a (Refused why) = Unit {0}
 CertifiedDistance (accepted p order items) a (Found found) = BoundedDistance (problem p items) (p .ceiling) (found .lower) (found .upper) (at a)

@@ -1,82 +1,52 @@
--- The chain of a training file, after document 01: "The training file" and refusal 3. Records are numbered from 1, and
--- `next r` is the next number that record r holds; 0 ends the chain. Refusal 3 speaks of a record met twice, and the walk
--- of a budget of m records: Chain/Laws.antt proves that they refuse the same files. Assumes nothing.
+-- The chain of a training file: what the walk from its first record comes to. Document 01, "The training file", and document 02, request
+-- (k). Laws are in Chain/Laws.antt. Assumes nothing.
 pub mod Laws
-use mathlib.Core.Path.{_≡_}
-use mathlib.Core.Logic.{_≢_}
-use mathlib.Core.Bool.{Bool, true, false, _||_}
+use mathlib.Core.Path.{_≡_, refl}
+use mathlib.Core.Logic.{_⊎_}
 use mathlib.Core.Option.{Option, none, some}
-use mathlib.Core.List.{List, [], _∷_, _++_}
-use Prim.Native.Nat.{ℕ, zero, suc, _≤_, _<_}
-use lib.Dec.{ltb, eqb}
+use mathlib.Core.List.{List, []}
+use Prim.Native.Nat.{ℕ, suc, _≤_, _<_}
 use lib.ListN.{length, getD}
 use Rattle.training_file.specs.Layout.{firstRecord, nextOf, recordsStored}
+use Rattle.chain.specs.Walk.{Walk, Walked, walk}
+use Rattle.chain.specs.Walk.Laws.{walk-stops}
 
--- What a walk along the chain finds. Refusal 3: a next number over m, or a record met twice, breaks it. Otherwise it ends
--- with the records met, in chain order.
-pub data Walk : Type 0 where
-  broken : Walk
-  ends : List ℕ → Walk
+-- what a walk has come to that does not go on
+abbrev pub cameTo : (found : Option Walk) → ¬ (found ≡ none) → Walk
+cameTo (some w) stops = w
+cameTo none stops = absurd (stops refl)
 
--- what a walk finds when the records rs were met before it
-abbrev pub front : List ℕ → Walk → Walk
-front rs broken = broken
-front rs (ends qs) = ends (rs ++ qs)
-
--- The walk that is at record r and may still meet `budget` records: "0 ends the chain"; "a next number over m" breaks it,
--- and so does a record past the budget. The recursion is on the budget alone, as the loop of the code counts.
-unfoldable pub walk : (next : ℕ → ℕ) (m budget r : ℕ) → Walk
-walk next m zero zero = ends []
-walk next m zero (suc r) = broken
-walk next m (suc budget) zero = ends []
-walk next m (suc budget) (suc r) =
-    elim (ltb m (suc r)) [ true ↦ broken | false ↦ front (suc r ∷ []) (walk next m budget (next (suc r))) ]
-
--- "The n items are the chained records in chain order": the walk from the first record, with a budget of m, since a chain
--- that meets no record twice has at most m. A first record over m, which is refused with 2 before, breaks it too.
+-- "The n items are the chained records in chain order": what the walk from the first record comes to. A walk meets at most m records
+-- (`walk-stops`), so it goes on for at most m turns and comes to this in the next.
 abbrev pub chain : (next : ℕ → ℕ) (m first : ℕ) → Walk
-chain next m first = walk next m m first
+chain next m first = cameTo (walk next m first (suc m) []) (walk-stops next m first)
 
 -- the chain of the file, walked over the next numbers of its records
 abbrev pub chainOf : List ℕ → Walk
 chainOf file = chain (nextOf file) (recordsStored file) (firstRecord file)
 
--- whether r is among the records rs
-abbrev pub member : ℕ → List ℕ → Bool
-member r [] = false
-member r (x ∷ rs) = eqb r x || member r rs
+-- ---- the same without the walk
 
--- Refusal 3 to the letter: the walk that is at record r and has met the records `met`, in chain order, is broken by "a next
--- number over m, or a chain that meets a record twice". Fuel is for the recursion only: none says that it was used up.
-unfoldable pub walkMet : (next : ℕ → ℕ) (m fuel : ℕ) (met : List ℕ) (r : ℕ) → Option Walk
-walkMet next m zero met r = none
-walkMet next m (suc fuel) met zero = some (ends met)
-walkMet next m (suc fuel) met (suc r) =
-    elim (ltb m (suc r) || member (suc r) met) [
-      | true ↦ some broken
-      | false ↦ walkMet next m fuel (met ++ (suc r ∷ [])) (next (suc r))
-    ]
-
--- That rs are the chained records "in chain order". A place past the end of rs reads 0, the number that ends the chain, so
--- that `starts` covers the empty chain and `links` the last record.
+-- That rs are the chained records "in chain order": the walk meets them, and the next number of the last one is 0. A place past the end of
+-- rs reads 0, so that `starts` covers the empty chain and `links` the last record.
 pub record IsChain (next : ℕ → ℕ) (m first : ℕ) (rs : List ℕ) : Type 0 where
+  pub walked : Walked next m first rs
   pub starts : getD rs 0 0 ≡ first
-  pub within : (k : ℕ) → k < length rs → (1 ≤ getD rs k 0) × (getD rs k 0 ≤ m)
   pub links : (k : ℕ) → k < length rs → next (getD rs k 0) ≡ getD rs (suc k) 0
-  pub distinct : (j k : ℕ) → j < k → k < length rs → getD rs j 0 ≢ getD rs k 0
 
--- ---- the chain step by step, for the code's loop
+-- That the chain breaks at record r with a number: r is the last of the records that the walk meets, and its next field is at fault. 3:
+-- that is over m. 16: it leads to a record already met, which may be r itself.
+pub record IsFault (next : ℕ → ℕ) (m first number r : ℕ) : Type 0 where
+  pub met : List ℕ
+  pub walked : Walked next m first met
+  pub place : ℕ
+  pub last : suc place ≡ length met
+  pub is : getD met place 0 ≡ r
+  pub fault : ((number ≡ 3) × (m < next r)) ⊎ ((number ≡ 16) × ((k : ℕ) × (k ≤ place) × (getD met k 0 ≡ next r)))
 
--- the record reached from `first` after k steps
-abbrev pub after : (next : ℕ → ℕ) (k first : ℕ) → ℕ
-after next zero first = first
-after next (suc k) first = next (after next k first)
+-- both of a file
+abbrev pub ChainIn : (file rs : List ℕ) → Type 0
+ChainIn file rs = IsChain (nextOf file) (recordsStored file) (firstRecord file) rs
 
--- the first k records reached from `first`, in chain order
-abbrev pub reached : (next : ℕ → ℕ) (k first : ℕ) → List ℕ
-reached next zero first = []
-reached next (suc k) first = reached next k first ++ (after next k first ∷ [])
-
--- that the first k records reached are all of 1 to m
-abbrev pub Passes : (next : ℕ → ℕ) (m k first : ℕ) → Type 0
-Passes next m k first = (j : ℕ) → j < k → (1 ≤ after next j first) × (after next j first ≤ m)
+abbrev pub FaultIn : (file : List ℕ) (number r : ℕ) → Type 0
+FaultIn file number r = IsFault (nextOf file) (recordsStored file) (firstRecord file) number r

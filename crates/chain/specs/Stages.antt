@@ -2,22 +2,23 @@
 -- `countRefusal` takes the refusal out of a count. Laws are in Stages/Laws.antt. Assumes nothing.
 pub mod Laws
 use mathlib.Core.Path.{_≡_}
-use mathlib.Core.Bool.{Bool, _&&_, cond}
+use mathlib.Core.Bool.{Bool, cond}
 use mathlib.Core.List.{List, [], _++_, map}
 use Prim.Native.Nat.{ℕ, _+_, _*_, _≤_}
-use lib.Dec.{leb, ltb, eqb}
+use lib.Dec.{leb, eqb}
 use lib.ListN.{length, take, drop}
 use Rattle.training_file.specs.declared.refusal.Refusal.{Refusal}
 use Rattle.training_file.specs.declared.item.Label.the-variants.{LookedUp}
-use Rattle.training_file.specs.Refusal.{noRefusal, refusal}
+use Rattle.training_file.specs.Refusal.{noRefusal, refusal, refusalAt}
 use Rattle.training_file.specs.Layout.{nextOf, recordsStored}
 use Rattle.training_file.specs.Parameters.{recordsMost}
 use Rattle.training_file.specs.Record.{itemAt, recordAllowed}
 use Rattle.chain.specs.declared.count.Count.{Count}
 use Rattle.chain.specs.declared.count.Count.the-variants as count
 use Rattle.chain.specs.declared.step.Step.{Step}
-use Rattle.chain.specs.declared.step.Step.the-variants.{Ended, Broken, Next}
-use Rattle.chain.specs.Chain.{Walk, broken, chainOf, ends}
+use Rattle.chain.specs.declared.step.Step.the-variants.{Ended, Over, Next}
+use Rattle.chain.specs.Walk.{Walk, broken, ends}
+use Rattle.chain.specs.Chain.{chainOf}
 use Rattle.chain.specs.Records.{every, labelled}
 
 -- ---- counts
@@ -39,25 +40,24 @@ pub record WholeFile (file : List ℕ) : Type 0 where
 
 -- ---- stage 3: the number of items
 
--- What the walk finds at a number, with so many records met before: "0 ends the chain"; the next number of a record of 1 to m
--- that the budget allows; otherwise a break.
+-- What the walk finds at a number, with so many records met before: "0 ends the chain"; the next number of a record of 1 to m; otherwise a
+-- number over m.
 abbrev pub stepAt : List ℕ → ℕ → ℕ → Step
 stepAt file number met =
-    cond (eqb number 0) Ended
-    (cond (leb number (recordsStored file) && ltb met (recordsStored file)) (Next (nextOf file number)) Broken)
+    cond (eqb number 0) (Ended met) (cond (leb number (recordsStored file)) (Next (nextOf file number)) Over)
 
 -- the number that a step leads to; 0 where it leads to none
 abbrev pub stepNext : Step → ℕ
-stepNext Ended = 0
-stepNext Broken = 0
+stepNext (Ended met) = 0
+stepNext Over = 0
 stepNext (Next number) = number
 
 abbrev pub walkAnswer : Walk → Count
-walkAnswer broken = count.Refused (refusal 3)
+walkAnswer (broken number r) = count.Refused (refusalAt number r)
 walkAnswer (ends records) = count.Counted (length records)
 
 abbrev pub recordsOf : Walk → List ℕ
-recordsOf broken = []
+recordsOf (broken number r) = []
 recordsOf (ends records) = records
 
 -- the record numbers in chain order, where the chain ends

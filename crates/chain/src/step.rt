@@ -9,10 +9,10 @@ use training_file::record;
 
 // What the walk finds at a number.
 pub enum Step {
-    // The number is 0, which ends the chain.
-    Ended,
-    // The number is over those stored; or as many records were met as are stored, and this one was among them.
-    Broken,
+    // The number is 0, which ends the chain, with so many records met.
+    Ended(usize),
+    // The number is over those stored.
+    Over,
     // The number is a record's, and this is the record's next number.
     Next(usize),
 }
@@ -23,8 +23,8 @@ impl Step {
         ensures { λ n. ⌜ n ≡ stepNext self ⌝ }
     {
         match self {
-            Step::Ended => 0,
-            Step::Broken => 0,
+            Step::Ended(_) => 0,
+            Step::Over => 0,
             Step::Next(next) => next,
         }
     }
@@ -44,14 +44,11 @@ pub fn step_at(file: &[u8], number: usize, met: usize) -> Step
     ensures { λ r. ⌜ r ≡ stepAt (now (file .entry)) number met ⌝ }
 {
     if number == 0 {
-        return Step::Ended;
+        return Step::Ended(met);
     }
     let stored = u16_at(file, layout::RECORDS_STORED) as usize;
     if stored < number {
-        return Step::Broken;
-    }
-    if stored <= met {
-        return Step::Broken;
+        return Step::Over;
     }
     Step::Next(record::next(file, number))
 }

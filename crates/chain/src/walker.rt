@@ -38,7 +38,7 @@ pub fn number<'a>(w: Walker<'a>) -> usize
     w.number
 }
 
-// What the walk finds where it stands: the chain's end, a break, or the next number.
+// What the walk finds where it stands: the chain's end, a number over those stored, or the next number.
 pub fn step<'a>(w: Walker<'a>) -> Step
     requires { ⌜ WholeFile (now (w .file)) ⌝ }
     ensures { λ s. ⌜ s ≡ stepAt (now (w .entry .file)) (w .entry .number) (w .entry .met) ⌝ }

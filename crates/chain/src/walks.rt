@@ -1,6 +1,5 @@
-// The chain, walked over the borrowed file record by record: once to see that it ends, once to judge its records, and once
-// to write down its order. Each step is the walker's. A walk that has met as many records as are stored and does not end has
-// met one twice, so no record needs a mark.
+// The chain, walked over the borrowed file record by record: once to see that it ends, and that it meets no record twice, once to judge its
+// records, and once to write down its order. Each step is the walker's.
 
 ghost use mathlib.Core.Path.{_≡_};
 ghost use Rattle.chain.specs.Chain.{chainOf};
@@ -8,27 +7,39 @@ ghost use Rattle.chain.specs.Stages.{Chained, WholeFile, judgeAnswer, or
 use super::count::Count;
 use super::step::Step;
 use super::walker;
+use training_file::item::Item;
 use training_file::item::LabelAnswer;
 use training_file::range::lesser;
 use training_file::record;
 use training_file::refusal::Refusal;
 
-// How many records are on the chain. Refused where a number is over those stored, or a record is met twice.
+// A place for each record number, and one for 0, which is none.
+const MARKS: usize = Item::MAX_COUNT + 1;
+
+// How many records are on the chain. Refused where the next field of the last record met is over those stored, or leads to a record that has
+// its mark, which each gets when it is met.
 pub fn walk(file: &[u8]) -> Count
     requires { ⌜ WholeFile (now file) ⌝ }
     ensures { λ r. ⌜ r ≡ walkAnswer (chainOf (now (file .entry))) ⌝ }
 {
+    let mut marks = [0u8; MARKS];
+    let mut last = 0;
     let mut number = walker::first(file);
     let mut met = 0;
     loop {
         match walker::step_from(file, number, met) {
-            Step::Ended => {
-                return Count::Counted(met);
+            Step::Ended(count) => {
+                return Count::Counted(count);
             }
-            Step::Broken => {
-                return Count::Refused(Refusal::CHAIN);
+            Step::Over => {
+                return Count::Refused(Refusal::at_record(Refusal::NEXT_OVER, last as u16));
             }
             Step::Next(next) => {
+                if marks[number] != 0 {
+                    return Count::Refused(Refusal::at_record(Refusal::NEXT_MET, last as u16));
+                }
+                marks[number] = 1;
+                last = number;
                 number = next;
                 met += 1;
             }

@@ -64,9 +64,9 @@ abbrev pub classifyItems : Parameters → List Item → List ℕ → List ℤ �
 classifyItems p items a word =
     cond (eqb (length word) (p .used)) (classifyJudged p items a word (judgement (problem p items) a)) (Refused (refusal 6))
 
--- "The first refusal met ends the call, in the order 1 to 9": those of the file come before those of the caller
+-- "The first refusal met ends the call": those of the file come before those of the caller
 abbrev pub classifyRead : Reading → List ℕ → List ℤ → Classified
-classifyRead (refused number) a word = Refused (refusal number)
+classifyRead (refused why) a word = Refused why
 classifyRead (accepted p order items) a word = classifyItems p items a word
 
 abbrev pub classifying : List ℕ → List ℕ → List ℤ → Classified

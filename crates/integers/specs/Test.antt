@@ -1,6 +1,5 @@
 -- Tests, as truth values: a test that is both true and false, one that is not the one, a conjunction, and a choice. Assumes nothing.
 use mathlib.Core.Path.{_≡_, refl, sym, _∙_}
-use mathlib.Core.Logic.{_⊎_, inl, inr}
 use mathlib.Core.Bool.{Bool, true, false, _&&_, cond, true≢false}
 
 -- no test is both
@@ -29,10 +28,6 @@ pub &&-right : (s t : Bool) → s && t ≡ true → t ≡ true
 
 pub &&-both : (s t : Bool) → s && t ≡ true → (s ≡ true) × (t ≡ true)
 &&-both s t h = (&&-left s t h, &&-right s t h)
-
-pub &&-either : (s t : Bool) → s && t ≡ false → (s ≡ false) ⊎ (t ≡ false)
-&&-either true t h = inr h
-&&-either false t h = inl refl
 
 pub &&-false-left : {s : Bool} (t : Bool) → s ≡ false → s && t ≡ false
 &&-false-left t h = λ i. h i && t

@@ -1,11 +1,12 @@
--- The lines of the listing (document 01, last part of "Settled examples", and document 02, request (l)), as lists of bytes: 32 is the space
--- and 10 ends a line. Laws are in Lines/Laws.antt. Assumes nothing.
+-- The lines of the listing (document 01, last part of "Settled examples", and document 02, requests (k) and (l)), as lists of bytes: 32 is the
+-- space and 10 ends a line. Laws are in Lines/Laws.antt. Assumes nothing.
 pub mod Laws
 use mathlib.Core.List.{List, [], _∷_, _++_}
 use Prim.Native.Nat.{ℕ, zero, suc}
 use lib.IntN.{ℤ}
 use lib.ListN.{getD}
 use Rattle.training_file.specs.declared.item.Item.{Item}
+use Rattle.training_file.specs.declared.refusal.Refusal.{Refusal}
 use Rattle.training_file.specs.declared.item.Label.{Label}
 use Rattle.training_file.specs.declared.item.Label.the-variants.{LookedUp, PassedOver}
 use Rattle.reading.specs.Reading.{reading}
@@ -45,9 +46,14 @@ refusedText = 114 ∷ 101 ∷ 102 ∷ 117 ∷ 115 ∷ 101 ∷ 100 ∷ []
 abbrev pub totalText : List ℕ
 totalText = 116 ∷ 111 ∷ 116 ∷ 97 ∷ 108 ∷ []
 
+-- Document 02, request (k): "a space and the record after the number"; nothing where the refusal carries none
+abbrev pub recordField : ℕ → List ℕ
+recordField zero = []
+recordField (suc r) = field (suc r)
+
 -- "`refused`, a space and the number"
-abbrev pub refusalLine : ℕ → List ℕ
-refusalLine number = refusedText ++ (field number ++ (10 ∷ []))
+abbrev pub refusalLine : Refusal → List ℕ
+refusalLine why = refusedText ++ (field (why .number) ++ (recordField (why .at) ++ (10 ∷ [])))
 
 -- "Line one: ending, steps, b_low, b_up."
 unfoldable pub resultLine : Trained → List ℕ

@@ -11,6 +11,7 @@ ghost use Rattle.lines.specs.Lines.{
   itemLine,
   itemsWithTotal,
   labelSign,
+  recordField,
   refusalLine,
   resultLine,
   shownIn,
@@ -47,14 +48,26 @@ fn put_signed_field(out: &mut [u8], at: usize, number: i64) -> usize
     put_signed(out, after_space, number)
 }
 
-// A refusal is the whole listing: its number alone.
+// The record that a refusal carries; nothing where it carries none.
+fn put_record(out: &mut [u8], at: usize, number: u16) -> usize
+    requires { ⌜ Room (recordField number) at (now out) ⌝ }
+    ensures { λ r. ⌜ Put (recordField number) at (now (out .entry)) (now (out .exit)) r ⌝ }
+{
+    if number == 0 {
+        return at;
+    }
+    put_field(out, at, number as u64)
+}
+
+// A refusal is the whole listing: its number, and its record where it carries one.
 pub fn put_refusal(out: &mut [u8], at: usize, refusal: Refusal) -> usize
-    requires { ⌜ Room (refusalLine (refusal .number)) at (now out) ⌝ }
-    ensures { λ r. ⌜ Put (refusalLine (refusal .number)) at (now (out .entry)) (now (out .exit)) r ⌝ }
+    requires { ⌜ Room (refusalLine refusal) at (now out) ⌝ }
+    ensures { λ r. ⌜ Put (refusalLine refusal) at (now (out .entry)) (now (out .exit)) r ⌝ }
 {
     let after_word = put_text(out, at, b"refused");
     let after_number = put_field(out, after_word, refusal.number as u64);
-    put_text(out, after_number, b"\n")
+    let after_record = put_record(out, after_number, refusal.at);
+    put_text(out, after_record, b"\n")
 }
 
 // Why training ended, in lower case letters.

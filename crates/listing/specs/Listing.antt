@@ -1,5 +1,5 @@
--- The listing that the training program prints (document 01, last part of "Settled examples", and document 02, request (l)), as a list of
--- bytes, of the lines that the crate `lines` defines. Laws are in Listing/Laws.antt, and the documents' own example is in
+-- The listing that the training program prints (document 01, last part of "Settled examples", and document 02, requests (k) and (l)), as a list
+-- of bytes, of the lines that the crate `lines` defines. Laws are in Listing/Laws.antt, and the documents' own example is in
 -- Listing/Examples.antt. Assumes nothing.
 pub mod Laws
 pub mod Examples
@@ -7,7 +7,6 @@ use mathlib.Core.List.{List, [], _++_}
 use Prim.Native.Nat.{ℕ}
 use lib.ListN.{length}
 use Rattle.training_file.specs.declared.item.Item.{Item}
-use Rattle.training_file.specs.Refusal.{refusal}
 use Rattle.reading.specs.declared.reader.FileAnswer.{FileAnswer}
 use Rattle.reading.specs.declared.reader.FileAnswer.the-variants as reader
 use Rattle.reading.specs.Reading.{Reading, refused, accepted, reading}
@@ -28,7 +27,7 @@ itemCount (reader.Accepted parameters count) = count
 -- what an answer of training prints, with the record numbers and the items in chain order and the multiplier of each: a refusal its line
 -- alone, an ending the result line, the item lines and their total
 unfoldable pub listing : Training → List ℕ → List Item → (ℕ → ℕ) → List ℕ
-listing (Refused why) order items multiplier = refusalLine (why .number)
+listing (Refused why) order items multiplier = refusalLine why
 listing (Ended trained) order items multiplier = resultLine trained ++ itemsWithTotal (length items) (shownAt order items multiplier)
 
 -- the same, in a file that was read, with a list of multipliers
@@ -37,7 +36,7 @@ listingIn answer file multipliers = listing answer (orderIn (reading file)) (ite
 
 -- what a file prints, by what it is read as: training's own answer and multipliers
 unfoldable pub listingOf : Reading → List ℕ
-listingOf (refused number) = listing (Refused (refusal number)) [] [] (at [])
+listingOf (refused why) = listing (Refused why) [] [] (at [])
 listingOf (accepted p order items) =
     listing (Ended (trainedOf (problem p items) (training (problem p items) (p .tolerance) (p .budget)))) order items
     (at (training (problem p items) (p .tolerance) (p .budget) .multipliers))

@@ -1,5 +1,6 @@
 -- Document 01, "Settled examples": P1 to P12 as one table of inputs and results, and one theorem, by the definitions that the
--- contracts of the public calls cite. E1 to E3 are our own, for request (e) of document 02. Assumes nothing.
+-- contracts of the public calls cite. E1 to E3 and K1 to K4 are our own, for requests (e) and (k) of document 02. Assumes
+-- nothing.
 use mathlib.Core.Path.{_≡_, refl}
 use mathlib.Core.Bool.{Bool, false}
 use mathlib.Core.List.{List, [], _∷_, _++_}
@@ -11,11 +12,12 @@ use Rattle.integers.specs.Sum.{sum}
 use Rattle.integers.specs.Extremum.{extreme, first}
 use Rattle.integers.specs.Places.{all}
 use Rattle.integers.specs.Written.{written}
-use Rattle.training_file.specs.Refusal.{refusal}
+use Rattle.training_file.specs.declared.refusal.Refusal.{Refusal}
+use Rattle.training_file.specs.Refusal.{refusal, refusalAt}
 use Rattle.training_file.specs.Parameters.{parametersAllowed}
 use Rattle.training_file.specs.Item.{featuresAllowed}
 use Rattle.training_file.specs.Record.{recordAllowed}
-use Rattle.chain.specs.Chain.{walk}
+use Rattle.chain.specs.Walk.{walk}
 use Rattle.chain.specs.Records.{every, labelled}
 use Rattle.reading.specs.Header.{headerAllowed, lengthAllowed}
 use Rattle.reading.specs.Reading.{Reading, refused, accepted, reading}
@@ -30,7 +32,7 @@ use Rattle.smo.specs.declared.ending.Ending.{Ending}
 use Rattle.smo.specs.declared.ending.Ending.the-variants.{Converged, Stuck, Spent}
 use Rattle.smo.specs.Run.{next, run}
 use Rattle.training.specs.declared.train.Training.the-variants.{Ended}
-use Rattle.training.specs.Train.{TrainingLeft, trainFile}
+use Rattle.training.specs.Train.{TrainingLeft, trainFile, unchanged}
 use Rattle.classifying.specs.declared.classify.Class.the-variants.{LookedUp, PassedOver, Undecided}
 use Rattle.classifying.specs.declared.classify.Classified.{Classified}
 use Rattle.classifying.specs.declared.classify.Classified.the-variants.{Is}
@@ -59,10 +61,20 @@ three = header 3 0 1 2 0 50 ++ stored 2 1 10 ++ stored 3 2 246 ++ stored 0 2 10
 abbrev uneven : List ℕ
 uneven = header 2 0 1 10 0 50 ++ stored 2 1 1 ++ stored 0 2 0
 
+-- the ±1 file of P1 with other next numbers, of record 1 and of record 2
+abbrev linked : (next₁ next₂ : ℕ) → List ℕ
+linked next₁ next₂ = header 2 0 10 100 0 50 ++ stored next₁ 1 1 ++ stored next₂ 2 255
+
+-- P9's three items, where the last leads back to the second, and the first has a wrong label
+abbrev tailIntoCycle : List ℕ
+tailIntoCycle = header 3 0 1 2 0 50 ++ stored 2 9 10 ++ stored 3 2 246 ++ stored 2 2 10
+
 -- ---- the cases
 pub data Case : Type 0 where
   -- the file; ending, steps, b_low, b_up; the lent list of three 9s afterwards
   trains : List ℕ → Ending → ℕ → ℤ → ℤ → List ℕ → Case
+  -- the file; the refusal, with which the lent lists are as they were
+  refuses : List ℕ → Refusal → Case
   -- the file: at the start the pair tried first does not move
   firstPairStays : List ℕ → Case
   -- the file, the multipliers; the answer
@@ -80,16 +92,17 @@ pairMoves P (some i) none = none
 pairMoves P none o = none
 
 abbrev firstPairMoves : Reading → Option Bool
-firstPairMoves (refused number) = none
+firstPairMoves (refused why) = none
 firstPairMoves (accepted p order items) = let P = problem p items in pairMoves P (iLow P (replicate (length items) 0)) (iUp P (replicate (length items) 0))
 
 abbrev value : Reading → List ℕ → List ℤ → ℤ
-value (refused number) a word = pos 0
+value (refused why) a word = pos 0
 value (accepted p order items) a word = score p items (at a) word
 
 abbrev pub Holds : Case → Type 0
 Holds (trains file ending steps lower upper left) =
     (trained file .answer ≡ Ended (record { ending = ending; steps = steps; lower = lower; upper = upper })) × (trained file .multipliers ≡ left)
+Holds (refuses file why) = trained file ≡ unchanged why (replicate 3 9) (replicate 3 (pos 9))
 Holds (firstPairStays file) = firstPairMoves (reading file) ≡ some false
 Holds (certifies file a answer) = certifying file a ≡ answer
 Holds (classifies file a word answer v) = (classifying file a word ≡ answer) × (value (reading file) a word ≡ v)
@@ -118,6 +131,10 @@ settledExamples =
     ∷ classifies (plusMinus 0 10 100 0 50) (0 ∷ 0 ∷ []) (pos 3 ∷ []) (Is Undecided) (pos 0)  -- E1
     ∷ classifies uneven (1 ∷ 1 ∷ []) (pos 0 ∷ []) (Is PassedOver) (negsuc 0)  -- E2
     ∷ classifies uneven (1 ∷ 1 ∷ []) (pos 1 ∷ []) (Is LookedUp) (pos 1)  -- E3
+    ∷ refuses (linked 2 1) (refusalAt 16 2)  -- K1
+    ∷ refuses (linked 1 0) (refusalAt 16 1)  -- K2
+    ∷ refuses (linked 2 3) (refusalAt 3 2)  -- K3
+    ∷ refuses tailIntoCycle (refusalAt 16 3)  -- K4
     ∷ []
 
 pub settled : AllHold settledExamples
@@ -141,7 +158,7 @@ settled = (
                 (refl, refl),
                 (
                   refl,
-                  ((refl, refl), (refl, (refl, (refl, ((refl, refl), ((refl, refl), ((refl, refl), ((refl, refl), ((refl, refl), tt))))))))),
+                  ((refl, refl), (refl, (refl, (refl, ((refl, refl), ((refl, refl), ((refl, refl), ((refl, refl), ((refl, refl), (refl, (refl, (refl, (refl, tt))))))))))))),
                 ),
               ),
             ),

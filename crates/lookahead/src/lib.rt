@@ -1,5 +1,5 @@
 // What callers use: a training file is read and trained, multipliers of it are certified, and words are classified by them. Any bytes
-// and any lists are taken; what is wrong with them is answered by a number of document 01. It may use every library below it.
+// and any lists are taken; what is wrong with them is answered by a refusal of documents 01 and 02. It may use every library below it.
 
 pub mod certify;
 pub mod classify;

@@ -4,6 +4,8 @@ use mathlib.Core.List.{List}
 use Prim.Native.Nat.{ℕ, zero, suc}
 use Rattle.training_file.specs.declared.parameters.Parameters.{Parameters}
 use Rattle.training_file.specs.declared.item.Item.{Item}
+use Rattle.training_file.specs.declared.refusal.Refusal.{Refusal}
+use Rattle.training_file.specs.Refusal.{noRefusal}
 use Rattle.reading.specs.Reading.{Reading, refused, accepted}
 use Rattle.dual_problem.specs.Problem.{BoundedDistance, problem}
 use Rattle.dual_problem.specs.Items.{at}
@@ -11,29 +13,29 @@ use Rattle.certifying.specs.declared.certify.Certified.{Certified}
 use Rattle.certifying.specs.declared.certify.Certified.the-variants.{Refused, Found}
 use Rattle.certifying.specs.declared.certify.Thresholds.{Thresholds}
 
--- 0, or the refusal's number
-abbrev pub certifyNumber : Certified → ℕ
-certifyNumber (Refused why) = why .number
-certifyNumber (Found thresholds) = 0
+-- the refusal, or none
+abbrev pub certifyRefusal : Certified → Refusal
+certifyRefusal (Refused why) = why
+certifyRefusal (Found thresholds) = noRefusal
 
 -- both lent numbers after the call, by those before it: a refusal changes neither
 abbrev pub certifyFound : Certified → Thresholds → Thresholds
 certifyFound (Refused why) before = before
 certifyFound (Found thresholds) before = thresholds
 
--- all that the caller sees after the call: the number answered, and both lent numbers
+-- all that the caller sees after the call: the refusal answered, and both lent numbers
 pub record CertifySeen : Type 0 where
-  pub number : ℕ
+  pub refusal : Refusal
   pub found : Thresholds
 
 abbrev pub certifySeen : Certified → Thresholds → CertifySeen
-certifySeen answer before = record { number = certifyNumber answer; found = certifyFound answer before }
+certifySeen answer before = record { refusal = certifyRefusal answer; found = certifyFound answer before }
 
--- Demand 3, of the multipliers handed in and of what the caller sees after an answer of 0
+-- Demand 3, of the multipliers handed in and of what the caller sees after a refusal of number 0
 abbrev pub AnsweredDistance : Parameters → List Item → List ℕ → ℕ → Thresholds → Type 0
 AnsweredDistance p items a zero found = BoundedDistance (problem p items) (p .ceiling) (found .lower) (found .upper) (at a)
 AnsweredDistance p items a (suc number) found = Unit {0}
 
 abbrev pub SeenDistance : Reading → List ℕ → CertifySeen → Type 0
-SeenDistance (refused number) a seen = Unit {0}
-SeenDistance (accepted p order items) a seen = AnsweredDistance p items a (seen .number) (seen .found)
+SeenDistance (refused why) a seen = Unit {0}
+SeenDistance (accepted p order items) a seen = AnsweredDistance p items a (seen .refusal .number) (seen .found)

@@ -7,6 +7,8 @@ use lib.IntN.{ℤ}
 use lib.ListN.{length, take}
 use Rattle.training_file.specs.declared.parameters.Parameters.{Parameters}
 use Rattle.training_file.specs.declared.item.Item.{Item}
+use Rattle.training_file.specs.declared.refusal.Refusal.{Refusal}
+use Rattle.training_file.specs.Refusal.{noRefusal}
 use Rattle.reading.specs.Reading.{Reading, refused, accepted}
 use Rattle.dual_problem.specs.Problem.{problem}
 use Rattle.smo.specs.declared.ending.Ending.{Ending}
@@ -15,10 +17,10 @@ use Rattle.training.specs.declared.train.Training.the-variants.{Refused, Ended}
 use Rattle.training.specs.Train.{ResultQuality, TrainingLeft}
 use Rattle.lookahead_c.specs.Numbering.{endingNumber}
 
--- 0, or the refusal's number
-abbrev pub trainNumber : Training → ℕ
-trainNumber (Refused why) = why .number
-trainNumber (Ended result) = 0
+-- the refusal, or none
+abbrev pub trainRefusal : Training → Refusal
+trainRefusal (Refused why) = why
+trainRefusal (Ended result) = noRefusal
 
 -- the single numbers that the caller lends
 pub record TrainNumbers : Type 0 where
@@ -32,9 +34,9 @@ abbrev pub trainFound : Training → TrainNumbers → TrainNumbers
 trainFound (Refused why) before = before
 trainFound (Ended result) before = record { ending = endingNumber (result .ending); steps = result .steps; lower = result .lower; upper = result .upper }
 
--- all that the caller sees after the call: the number answered, both lists and the single numbers
+-- all that the caller sees after the call: the refusal answered, both lists and the single numbers
 pub record TrainSeen : Type 0 where
-  pub number : ℕ
+  pub refusal : Refusal
   pub multipliers : List ℕ
   pub gradient : List ℤ
   pub found : TrainNumbers
@@ -42,13 +44,13 @@ pub record TrainSeen : Type 0 where
 abbrev pub trainSeen : TrainingLeft → TrainNumbers → TrainSeen
 trainSeen left before =
     record {
-      number = trainNumber (left .answer);
+      refusal = trainRefusal (left .answer);
       multipliers = left .multipliers;
       gradient = left .gradient;
       found = trainFound (left .answer) before;
     }
 
--- the quality of a training that was answered, by the number answered
+-- the quality of a training that was answered, by the number of the refusal answered
 abbrev pub AnsweredQuality : Parameters → List Item → ℕ → TrainNumbers → List ℕ → Type 0
 AnsweredQuality p items zero found left =
     (ending : Ending)
@@ -56,7 +58,7 @@ AnsweredQuality p items zero found left =
     × ResultQuality p (problem p items) (record { ending = ending; steps = found .steps; lower = found .lower; upper = found .upper }) (take (length items) left)
 AnsweredQuality p items (suc number) found left = Unit {0}
 
--- Demand 3, of what the caller sees after an answer of 0: the numbers written, and the multipliers in the first n places
+-- Demand 3, of what the caller sees after a refusal of number 0: the numbers written, and the multipliers in the first n places
 abbrev pub SeenQuality : Reading → TrainSeen → Type 0
-SeenQuality (refused number) seen = Unit {0}
-SeenQuality (accepted p order items) seen = AnsweredQuality p items (seen .number) (seen .found) (seen .multipliers)
+SeenQuality (refused why) seen = Unit {0}
+SeenQuality (accepted p order items) seen = AnsweredQuality p items (seen .refusal .number) (seen .found) (seen .multipliers)

@@ -5,6 +5,7 @@ ghost use Rattle.reading.specs.Reading.{reading};
 ghost use Rattle.certifying.specs.Certify.{certifying};
 ghost use Rattle.lookahead_c.specs.Certifying.{SeenDistance, certifySeen};
 use lookahead::Certified;
+use lookahead::Refusal;
 
 // Both thresholds are written, or neither: a refusal leaves them as they were.
 #[no_mangle]
@@ -13,24 +14,24 @@ pub extern "C" fn lookahead_certify(
     multipliers: &[u32],
     lower: &mut i64,
     upper: &mut i64,
-) -> u8
+) -> Refusal
     ensures seen { λ r.
-        ⌜ record { number = r; found = record { lower = now (lower .exit); upper = now (upper .exit) } }
+        ⌜ record { refusal = r; found = record { lower = now (lower .exit); upper = now (upper .exit) } }
         ≡ certifySeen (certifying (now (file .entry)) (now (multipliers .entry))) (record { lower = now (lower .entry); upper = now (upper .entry) }) ⌝ }
     ensures distance { λ r.
         ⌜ SeenDistance (reading (now (file .entry))) (now (multipliers .entry))
-        (record { number = r; found = record { lower = now (lower .exit); upper = now (upper .exit) } }) ⌝ }
+        (record { refusal = r; found = record { lower = now (lower .exit); upper = now (upper .exit) } }) ⌝ }
 {
     let certified = lookahead::certify::certify(file, multipliers);
     match certified {
-        Certified::Refused(refusal) => refusal.number,
+        Certified::Refused(refusal) => refusal,
         Certified::Found(thresholds) => {
             // The checker follows a signed number that is written from a local, not from a field.
             let b_low = thresholds.lower;
             let b_up = thresholds.upper;
             *lower = b_low;
             *upper = b_up;
-            0
+            Refusal::NONE
         }
     }
 }

@@ -5,6 +5,7 @@ ghost use Rattle.classifying.specs.Classify.{classifying};
 ghost use Rattle.lookahead_c.specs.Classifying.{classifySeen};
 use super::numbering::class_number;
 use lookahead::Classified;
+use lookahead::Refusal;
 
 // The class is written only where there is one: a refusal leaves it as it was.
 #[no_mangle]
@@ -13,17 +14,17 @@ pub extern "C" fn lookahead_classify(
     multipliers: &[u32],
     word: &[i8],
     class: &mut u8,
-) -> u8
+) -> Refusal
     ensures { λ r.
-        ⌜ record { number = r; found = now (class .exit) }
+        ⌜ record { refusal = r; found = now (class .exit) }
         ≡ classifySeen (classifying (now (file .entry)) (now (multipliers .entry)) (now (word .entry))) (now (class .entry)) ⌝ }
 {
     let classified = lookahead::classify::classify(file, multipliers, word);
     match classified {
-        Classified::Refused(refusal) => refusal.number,
+        Classified::Refused(refusal) => refusal,
         Classified::Is(found) => {
             *class = class_number(found);
-            0
+            Refusal::NONE
         }
     }
 }

@@ -4,6 +4,7 @@ ghost use mathlib.Core.Path.{_≡_};
 ghost use Rattle.reading.specs.Reading.{reading};
 ghost use Rattle.lookahead_c.specs.Reading.{readSeen};
 use lookahead::FileAnswer;
+use lookahead::Refusal;
 
 // The table is the library's to fill; the three numbers are written here, and only after the library has refused nothing.
 #[no_mangle]
@@ -13,10 +14,10 @@ pub extern "C" fn lookahead_read(
     items: &mut usize,
     used: &mut usize,
     kernel: &mut u8,
-) -> u8
+) -> Refusal
     ensures { λ r.
         ⌜ record {
-          number = r;
+          refusal = r;
           order = now (order .exit);
           found = record { items = now (items .exit); used = now (used .exit); kernel = now (kernel .exit) };
         }
@@ -25,14 +26,14 @@ pub extern "C" fn lookahead_read(
 {
     let answer = lookahead::read::read(file, order);
     match answer {
-        FileAnswer::Refused(refusal) => refusal.number,
+        FileAnswer::Refused(refusal) => refusal,
         FileAnswer::Accepted(parameters, count) => {
             // The checker follows an enum that is passed on from a local, not from a field.
             let which = parameters.kernel;
             *items = count;
             *used = parameters.used;
             *kernel = which.to_byte();
-            0
+            Refusal::NONE
         }
     }
 }

@@ -5,6 +5,7 @@ ghost use Rattle.reading.specs.Reading.{reading};
 ghost use Rattle.training.specs.Train.{trainFile};
 ghost use Rattle.lookahead_c.specs.Training.{SeenQuality, trainSeen};
 use super::numbering::ending_number;
+use lookahead::Refusal;
 use lookahead::Training;
 
 // The lists are the library's to fill; the four numbers are written here, and only after the library has refused nothing.
@@ -17,10 +18,10 @@ pub extern "C" fn lookahead_train(
     steps: &mut u32,
     lower: &mut i64,
     upper: &mut i64,
-) -> u8
+) -> Refusal
     ensures seen { λ r.
         ⌜ record {
-          number = r;
+          refusal = r;
           multipliers = now (multipliers .exit);
           gradient = now (gradient .exit);
           found = record { ending = now (ending .exit); steps = now (steps .exit); lower = now (lower .exit); upper = now (upper .exit) };
@@ -30,7 +31,7 @@ pub extern "C" fn lookahead_train(
     ensures quality { λ r.
         ⌜ SeenQuality (reading (now (file .entry)))
         (record {
-          number = r;
+          refusal = r;
           multipliers = now (multipliers .exit);
           gradient = now (gradient .exit);
           found = record { ending = now (ending .exit); steps = now (steps .exit); lower = now (lower .exit); upper = now (upper .exit) };
@@ -38,7 +39,7 @@ pub extern "C" fn lookahead_train(
 {
     let training = lookahead::train::train(file, multipliers, gradient);
     match training {
-        Training::Refused(refusal) => refusal.number,
+        Training::Refused(refusal) => refusal,
         Training::Ended(trained) => {
             // The checker follows a signed number or an enum that is passed on from a local, not from a field.
             let why = trained.ending;
@@ -48,7 +49,7 @@ pub extern "C" fn lookahead_train(
             *steps = trained.steps;
             *lower = b_low;
             *upper = b_up;
-            0
+            Refusal::NONE
         }
     }
 }

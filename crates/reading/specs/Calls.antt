@@ -7,15 +7,15 @@ use lib.ListN.{length, getD}
 use Rattle.training_file.specs.declared.item.Label.the-variants.{PassedOver}
 use Rattle.training_file.specs.declared.item.Item.{Item}
 use Rattle.training_file.specs.declared.refusal.Refusal.{Refusal}
-use Rattle.training_file.specs.Refusal.{noRefusal, refusal}
+use Rattle.training_file.specs.Refusal.{noRefusal}
 use Rattle.chain.specs.Stages.{tableWith}
 use Rattle.reading.specs.declared.reader.FileAnswer.{FileAnswer}
 use Rattle.reading.specs.declared.reader.FileAnswer.the-variants.{Refused, Accepted}
 use Rattle.reading.specs.Reading.{Reading, accepted, reading, refused}
 
--- what reading a file answers: the refusal's number, or the parameters and how many items there are
+-- what reading a file answers: the refusal, or the parameters and how many items there are
 abbrev pub fileAnswer : Reading → FileAnswer
-fileAnswer (refused number) = Refused (refusal number)
+fileAnswer (refused why) = Refused why
 fileAnswer (accepted parameters records items) = Accepted parameters (length records)
 
 -- the refusal that an answer is
@@ -25,16 +25,16 @@ fileRefusal (Accepted parameters count) = noRefusal
 
 -- the lent order table afterwards: the record numbers in chain order are written into it; on a refusal it keeps its contents
 abbrev pub tableAfter : Reading → List ℕ → List ℕ
-tableAfter (refused number) table = table
+tableAfter (refused why) table = table
 tableAfter (accepted parameters records items) table = tableWith records table
 
 -- the record numbers and the items of a file that is accepted, in chain order; none of one that is refused
 abbrev pub orderIn : Reading → List ℕ
-orderIn (refused number) = []
+orderIn (refused why) = []
 orderIn (accepted parameters records items) = records
 
 abbrev pub itemsIn : Reading → List Item
-itemsIn (refused number) = []
+itemsIn (refused why) = []
 itemsIn (accepted parameters records items) = items
 
 -- the item at a place of a list, counted from 0; past its end, one without features

@@ -8,6 +8,7 @@ use reading::reader;
 use reading::reader::FileAnswer;
 use training_file::bytes::u16_at;
 use training_file::item::Item;
+use training_file::refusal::Refusal;
 
 // More files than there are.
 const MOST: usize = 1_000;
@@ -18,22 +19,28 @@ const LONGEST: usize = 5_172;
 // The places of the longest order table.
 const PLACES: usize = Item::MAX_COUNT;
 
+fn show_number(number: u16) {
+    io::write_all(STDOUT_FILENO, b" ");
+    io::print_decimal(STDOUT_FILENO, number as u64);
+}
+
+// The record is shown also where it is 0, which no refusal but 3 and 16 may carry.
+fn show_refusal(refusal: Refusal) {
+    io::write_all(STDOUT_FILENO, b"refused");
+    show_number(refusal.number as u16);
+    show_number(refusal.at);
+}
+
 fn show_answer(answer: FileAnswer) {
     match answer {
         FileAnswer::Refused(refusal) => {
-            io::write_all(STDOUT_FILENO, b"refused ");
-            io::print_decimal(STDOUT_FILENO, refusal.number as u64);
+            show_refusal(refusal);
         }
         FileAnswer::Accepted(_, items) => {
             io::write_all(STDOUT_FILENO, b"accepted ");
             io::print_decimal(STDOUT_FILENO, items as u64);
         }
     }
-}
-
-fn show_number(number: u16) {
-    io::write_all(STDOUT_FILENO, b" ");
-    io::print_decimal(STDOUT_FILENO, number as u64);
 }
 
 fn show_table(table: &[u16]) {

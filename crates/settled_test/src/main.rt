@@ -1,5 +1,5 @@
 // Runs the cases of its input through the library, a line each. They are document 01's settled examples P1 to P12, with the lines the
-// results settled there, our own E1 to E3, and words at the ends of the range (tools/settled_cases.py). That the definitions give the
+// results settled there, our own E1 to E3 and K1 to K4, and words at the ends of the range (tools/settled_cases.py). That the definitions give the
 // settled results is the theorem `settled`; this shows the compiled code give them.
 
 ghost use mathlib.Core.Path.{_≡_};
@@ -51,9 +51,11 @@ fn show_number(number: i64) {
     io::write_all(STDOUT_FILENO, &line[..end]);
 }
 
+// The record is shown also where it is 0, which no refusal but 3 and 16 may carry.
 fn show_refusal(refusal: Refusal) {
     io::write_all(STDOUT_FILENO, b" refused");
     show_number(refusal.number as i64);
+    show_number(refusal.at as i64);
 }
 
 fn show_thresholds(lower: i64, upper: i64) {

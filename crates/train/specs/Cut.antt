@@ -8,6 +8,7 @@ use native.Mathlib.Decide.{decLe}
 use native.Mathlib.Omega.{arith}
 use lib.ListN.{length, take}
 use lib.Seq.{length-take-le, take-all}
+use Rattle.training_file.specs.Refusal.{refusal}
 use Rattle.reading.specs.Header.{lengthAllowed}
 use Rattle.reading.specs.Header.Laws.{allowed-whole}
 use Rattle.reading.specs.Reading.{reading, refused}
@@ -18,10 +19,10 @@ use Rattle.listing.specs.Listing.{listingOf}
 abbrev pub enough : ℕ
 enough = 5153
 
-long-refused : (file : List ℕ) → enough ≤ length file → reading file ≡ refused 1
+long-refused : (file : List ℕ) → enough ≤ length file → reading file ≡ refused (refusal 1)
 long-refused file h = by (lengthAllowed file) refl
   where
-    by : (b : Bool) → lengthAllowed file ≡ b → reading file ≡ refused 1
+    by : (b : Bool) → lengthAllowed file ≡ b → reading file ≡ refused (refusal 1)
     by false e = reads-1 file e
     by true e = let held = allowed-whole file e in absurd (omega arith)
 

@@ -31,7 +31,7 @@ pub record TrainingLeft : Type 0 where
   pub multipliers : List ℕ
   pub gradient : List ℤ
 
--- "A refusal returns its number alone .. and every lent list keeps its contents."
+-- on a refusal "every lent list keeps its contents"
 abbrev pub unchanged : Refusal → List ℕ → List ℤ → TrainingLeft
 unchanged why a g = record { answer = Refused why; multipliers = a; gradient = g }
 
@@ -44,9 +44,9 @@ endedWith P o a g =
       gradient = written (P .count) (gradient P (at (o .multipliers))) g;
     }
 
--- refusals 1 to 5 are the file's; "6: training, a lent list shorter than n"
+-- refusals 1 to 5 and 16 are the file's; "6: training, a lent list shorter than n"
 abbrev pub trainRead : Reading → List ℕ → List ℤ → TrainingLeft
-trainRead (refused number) a g = unchanged (refusal number) a g
+trainRead (refused why) a g = unchanged why a g
 trainRead (accepted p order items) a g =
     cond (leb (length items) (length a) && leb (length items) (length g))
     (endedWith (problem p items) (training (problem p items) (p .tolerance) (p .budget)) a g)
@@ -73,6 +73,6 @@ pub record ResultQuality (p : Parameters) (P : Problem) (result : Trained) (a : 
 
 -- the same of the answer to any file, and of the lent list as training leaves it
 abbrev pub TrainingQuality : Reading → Training → List ℕ → Type 0
-TrainingQuality (refused number) answer left = Unit {0}
+TrainingQuality (refused why) answer left = Unit {0}
 TrainingQuality (accepted p order items) (Refused why) left = Unit {0}
 TrainingQuality (accepted p order items) (Ended result) left = ResultQuality p (problem p items) result (take (length items) left)

@@ -1,30 +1,49 @@
-// A refusal of document 01: "A refusal returns its number alone." They all stand in this one list, and nothing else makes one.
+// The refusals of documents 01 and 02: a refusal is its number and, for 3 and 16, the record whose next field is at fault. They all stand
+// in this one list, and nothing else makes one. The value of a constant can't be a call, so those of a number alone are spelled out.
 
+ghost use mathlib.Core.Path.{_≡_};
+ghost use Rattle.training_file.specs.Refusal.{refusalAt};
+
+// It is what the calls for C answer, by value.
+#[repr(C)]
 pub struct Refusal {
     pub number: u8,
+    // 0 where the refusal carries no record: records are numbered from 1.
+    pub at: u16,
 }
 
 impl Refusal {
+    // The refusal of a number and a record.
+    pub fn at_record(number: u8, at: u16) -> Refusal
+        ensures { λ r. ⌜ r ≡ refusalAt number at ⌝ }
+    {
+        Refusal { number, at }
+    }
+
     // No refusal has the number 0: it stands where an answer is none.
-    pub const NONE: Refusal = Refusal { number: 0 };
+    pub const NONE: Refusal = Refusal { number: 0, at: 0 };
 
     // What whoever wrote the file can cause.
-    pub const FILE_LENGTH: Refusal = Refusal { number: 1 };
+    pub const FILE_LENGTH: Refusal = Refusal { number: 1, at: 0 };
 
-    pub const HEADER: Refusal = Refusal { number: 2 };
+    pub const HEADER: Refusal = Refusal { number: 2, at: 0 };
 
-    pub const CHAIN: Refusal = Refusal { number: 3 };
+    // The number of a next number over m; the refusal is `at_record`'s.
+    pub const NEXT_OVER: u8 = 3;
 
-    pub const RECORD: Refusal = Refusal { number: 4 };
+    pub const RECORD: Refusal = Refusal { number: 4, at: 0 };
 
-    pub const LABELS: Refusal = Refusal { number: 5 };
+    pub const LABELS: Refusal = Refusal { number: 5, at: 0 };
 
     // What the caller can cause. 6 is of a lent list, multipliers or a word of the wrong length.
-    pub const LIST_LENGTH: Refusal = Refusal { number: 6 };
+    pub const LIST_LENGTH: Refusal = Refusal { number: 6, at: 0 };
 
-    pub const MULTIPLIER: Refusal = Refusal { number: 7 };
+    pub const MULTIPLIER: Refusal = Refusal { number: 7, at: 0 };
 
-    pub const BALANCE: Refusal = Refusal { number: 8 };
+    pub const BALANCE: Refusal = Refusal { number: 8, at: 0 };
 
-    pub const WORD_FEATURE: Refusal = Refusal { number: 9 };
+    pub const WORD_FEATURE: Refusal = Refusal { number: 9, at: 0 };
+
+    // Whoever wrote the file, again. The number of a next field that leads to a record already met; the refusal is `at_record`'s.
+    pub const NEXT_MET: u8 = 16;
 }

@@ -1,6 +1,6 @@
 //! The calls made for one file, each answered by the library and the reference.
 
-use crate::expected::{self, UNDECIDED};
+use crate::expected::{self, ACCEPTED, UNDECIDED};
 use crate::library::{self, CertifyAnswer, ClassifyAnswer, ReadAnswer, TrainAnswer};
 use crate::report::{Difference, Tally};
 use reference::file::{read, Problem, MOST_RECORDS};
@@ -22,7 +22,7 @@ pub fn compare(file: &[u8], random: &mut Random, tally: &mut Tally) -> Result<()
         let multipliers = multipliers::handed_in(problem.as_ref(), &trained, random);
         let word = words::handed_in(problem.as_ref(), &multipliers, random);
         let answer = compare_classify(file, &multipliers, &word, random, tally)?;
-        undecided |= answer.number == 0 && answer.class == UNDECIDED;
+        undecided |= answer.returned == ACCEPTED && answer.class == UNDECIDED;
     }
     tally.count_file(undecided);
     compare_read(file, problem.as_ref(), random, tally)
@@ -57,7 +57,7 @@ fn compare_read(
     let n = items(problem, random);
     let places = table_length(n, random);
     let before = ReadAnswer {
-        number: 0,
+        returned: ACCEPTED,
         items: random.draw() as usize,
         used: random.draw() as usize,
         kernel: random.draw() as u8,
@@ -66,7 +66,7 @@ fn compare_read(
     };
     let expected = expected::read(file, &before);
     let answered = library::read(file, &before, random);
-    tally.count("read", expected.number, expected.kernel);
+    tally.count("read", expected.returned.number, expected.kernel);
     agreed(
         "read",
         file,
@@ -121,7 +121,7 @@ fn compare_one_training(
     tally: &mut Tally,
 ) -> Result<Vec<u32>, Box<Difference>> {
     let before = TrainAnswer {
-        number: 0,
+        returned: ACCEPTED,
         ending: random.draw() as u8,
         steps: random.draw() as u32,
         lower: random.draw() as i64,
@@ -132,7 +132,7 @@ fn compare_one_training(
     };
     let expected = expected::train(file, &before);
     let answered = library::train(file, &before, random);
-    tally.count("train", expected.number, expected.ending);
+    tally.count("train", expected.returned.number, expected.ending);
     agreed(
         "train",
         file,
@@ -151,14 +151,14 @@ fn compare_certify(
 ) -> Result<(), Box<Difference>> {
     let (lower, upper) = (random.draw() as i64, random.draw() as i64);
     let before = CertifyAnswer {
-        number: 0,
+        returned: ACCEPTED,
         lower,
         upper,
         surroundings_kept: true,
     };
     let expected = expected::certify(file, multipliers, &before);
     let answered = library::certify(file, multipliers, &before, random);
-    tally.count("certify", expected.number, 0);
+    tally.count("certify", expected.returned.number, 0);
     agreed(
         "certify",
         file,
@@ -177,13 +177,13 @@ fn compare_classify(
     tally: &mut Tally,
 ) -> Result<ClassifyAnswer, Box<Difference>> {
     let before = ClassifyAnswer {
-        number: 0,
+        returned: ACCEPTED,
         class: random.draw() as u8,
         surroundings_kept: true,
     };
     let expected = expected::classify(file, multipliers, word, &before);
     let answered = library::classify(file, multipliers, word, &before, random);
-    tally.count("classify", expected.number, expected.class);
+    tally.count("classify", expected.returned.number, expected.class);
     agreed(
         "classify",
         file,

@@ -1,9 +1,23 @@
 //! What the reference expects to be seen after a call: its answer where it
 //! gives one, and what stood there before where it refuses.
 
-use crate::library::{CertifyAnswer, ClassifyAnswer, ReadAnswer, TrainAnswer};
+use crate::library::{CertifyAnswer, ClassifyAnswer, LookaheadAnswer, ReadAnswer, TrainAnswer};
 use reference::kernel::Kernel;
-use reference::{Class, Ending};
+use reference::{Class, Ending, Refusal};
+
+/// The answer of a call that refuses nothing.
+pub const ACCEPTED: LookaheadAnswer = LookaheadAnswer {
+    number: 0,
+    record: 0,
+};
+
+/// "record: ... otherwise 0" of the C interface.
+fn refused(refusal: Refusal) -> LookaheadAnswer {
+    LookaheadAnswer {
+        number: refusal.number,
+        record: refusal.record.unwrap_or(0),
+    }
+}
 
 /// "kernel: 0 linear, 1 square" of document 01's header.
 fn kernel_number(kernel: Kernel) -> u8 {
@@ -36,9 +50,9 @@ fn class_number(class: Class) -> u8 {
 pub fn read(file: &[u8], before: &ReadAnswer) -> ReadAnswer {
     let mut after = before.clone();
     match reference::contents(file, &mut after.order) {
-        Err(number) => after.number = number,
+        Err(refusal) => after.returned = refused(refusal),
         Ok(contents) => {
-            after.number = 0;
+            after.returned = ACCEPTED;
             after.items = contents.items;
             after.used = contents.features;
             after.kernel = kernel_number(contents.kernel);
@@ -50,9 +64,9 @@ pub fn read(file: &[u8], before: &ReadAnswer) -> ReadAnswer {
 pub fn train(file: &[u8], before: &TrainAnswer) -> TrainAnswer {
     let mut after = before.clone();
     match reference::train(file, &mut after.multipliers, &mut after.gradient) {
-        Err(number) => after.number = number,
+        Err(refusal) => after.returned = refused(refusal),
         Ok(trained) => {
-            after.number = 0;
+            after.returned = ACCEPTED;
             after.ending = ending_number(trained.ending);
             after.steps = trained.steps;
             after.lower = trained.lower;
@@ -64,12 +78,12 @@ pub fn train(file: &[u8], before: &TrainAnswer) -> TrainAnswer {
 
 pub fn certify(file: &[u8], multipliers: &[u32], before: &CertifyAnswer) -> CertifyAnswer {
     match reference::certify(file, multipliers) {
-        Err(number) => CertifyAnswer {
-            number,
+        Err(refusal) => CertifyAnswer {
+            returned: refused(refusal),
             ..before.clone()
         },
         Ok((lower, upper)) => CertifyAnswer {
-            number: 0,
+            returned: ACCEPTED,
             lower,
             upper,
             ..before.clone()
@@ -84,12 +98,12 @@ pub fn classify(
     before: &ClassifyAnswer,
 ) -> ClassifyAnswer {
     match reference::classify(file, multipliers, word) {
-        Err(number) => ClassifyAnswer {
-            number,
+        Err(refusal) => ClassifyAnswer {
+            returned: refused(refusal),
             ..before.clone()
         },
         Ok(class) => ClassifyAnswer {
-            number: 0,
+            returned: ACCEPTED,
             class: class_number(class),
             ..before.clone()
         },

@@ -7,6 +7,7 @@
 #[path = "../../../include/lookahead.rs"]
 mod declared;
 
+pub use declared::LookaheadAnswer;
 use declared::{lookahead_certify, lookahead_classify, lookahead_read, lookahead_train};
 use reference::generate::Random;
 
@@ -56,7 +57,7 @@ impl<T: Copy + PartialEq> Lent<T> {
 /// All that can be seen after a reading call.
 #[derive(Clone, PartialEq, Eq, Debug)]
 pub struct ReadAnswer {
-    pub number: u8,
+    pub returned: LookaheadAnswer,
     pub items: usize,
     pub used: usize,
     pub kernel: u8,
@@ -67,7 +68,7 @@ pub struct ReadAnswer {
 /// All that can be seen after a training call.
 #[derive(Clone, PartialEq, Eq, Debug)]
 pub struct TrainAnswer {
-    pub number: u8,
+    pub returned: LookaheadAnswer,
     pub ending: u8,
     pub steps: u32,
     pub lower: i64,
@@ -80,7 +81,7 @@ pub struct TrainAnswer {
 /// All that can be seen after a certifying call.
 #[derive(Clone, PartialEq, Eq, Debug)]
 pub struct CertifyAnswer {
-    pub number: u8,
+    pub returned: LookaheadAnswer,
     pub lower: i64,
     pub upper: i64,
     pub surroundings_kept: bool,
@@ -89,7 +90,7 @@ pub struct CertifyAnswer {
 /// All that can be seen after a classifying call.
 #[derive(Clone, PartialEq, Eq, Debug)]
 pub struct ClassifyAnswer {
-    pub number: u8,
+    pub returned: LookaheadAnswer,
     pub class: u8,
     pub surroundings_kept: bool,
 }
@@ -101,7 +102,7 @@ pub fn read(file: &[u8], before: &ReadAnswer, random: &mut Random) -> ReadAnswer
     let mut after = before.clone();
     // SAFETY: every pointer is to a list of the length handed over with it, or
     // to a place of its own.
-    after.number = unsafe {
+    after.returned = unsafe {
         lookahead_read(
             file.read(),
             file.length,
@@ -124,7 +125,7 @@ pub fn train(file: &[u8], before: &TrainAnswer, random: &mut Random) -> TrainAns
     let mut gradient = Lent::new(&before.gradient, || random.draw() as i64);
     let mut after = before.clone();
     // SAFETY: as in `read`.
-    after.number = unsafe {
+    after.returned = unsafe {
         lookahead_train(
             file.read(),
             file.length,
@@ -155,7 +156,7 @@ pub fn certify(
     let multipliers = Lent::new(multipliers, || random.draw() as u32);
     let mut after = before.clone();
     // SAFETY: as in `read`.
-    after.number = unsafe {
+    after.returned = unsafe {
         lookahead_certify(
             file.read(),
             file.length,
@@ -182,7 +183,7 @@ pub fn classify(
     let word = Lent::new(word, || random.draw() as i8);
     let mut after = before.clone();
     // SAFETY: as in `read`.
-    after.number = unsafe {
+    after.returned = unsafe {
         lookahead_classify(
             file.read(),
             file.length,

@@ -1,9 +1,10 @@
 /* A quick stand-in for the library under test, to try the comparison with.
  *
- * It works otherwise than the reference: G is carried along from move to move,
- * and the amount of a move comes from a formula. So a run without a mutation
- * also checks the reference. MUTATION (0 is none) makes one thing wrong; the
- * comparison has to find each. The list is in mutations.txt. */
+ * It works otherwise than the reference: the walk along the chain marks the
+ * records met in a table, G is carried along from move to move, and the amount
+ * of a move comes from a formula. So a run without a mutation also checks the
+ * reference. MUTATION (0 is none) makes one thing wrong; the comparison has to
+ * find each. The list is in mutations.txt. */
 
 #include "lookahead.h"
 #include <stdlib.h>
@@ -17,7 +18,8 @@
 enum { MOST = 256, LOWEST = -127, HIGHEST = 127 };
 
 typedef struct {
-    int d, kernel, n, record[MOST], y[MOST];
+    int d, kernel, n, y[MOST];
+    size_t record[MOST + 1]; /* mutations 135 and 136 can meet one record twice */
     int64_t S, c, t;
     uint32_t budget;
     const int8_t *x[MOST];
@@ -30,6 +32,12 @@ static uint64_t field(const uint8_t *p, int width) {
     while (width-- > 0) v = v << 8 | p[width];
     return v;
 }
+
+static size_t first_record(const uint8_t *f) { return field(f + 2, 2); }
+static const uint8_t *record(const uint8_t *f, size_t r) { return f + 32 + 20 * (r - 1); }
+
+/* A refusal without a record, or none: 0. */
+static lookahead_answer refused(uint8_t number) { return (lookahead_answer){number, 0}; }
 
 static int64_t kernel(const Problem *p, const int8_t *u, const int8_t *v) {
     int products = 0;
@@ -54,47 +62,138 @@ static uint8_t judge_record(const uint8_t *r, int d) {
     return 0;
 }
 
-static uint8_t read_file(Problem *p, const uint8_t *f, size_t len) {
+static uint8_t judge_length(const uint8_t *f, size_t len) {
     if (len < 32 + (size_t)WRONG(80)) return 1;
-    size_t m = field(f, 2), first = field(f + 2, 2);
+    size_t m = field(f, 2);
     if (m > 256 - (size_t)WRONG(31)) return 1;
-    if (WRONG(37) ? len < 32 + 20 * m : len != 32 + 20 * m) return 1;
+    return (WRONG(37) ? len < 32 + 20 * m : len != 32 + 20 * m) ? 1 : 0;
+}
+
+static uint8_t judge_header(Problem *p, const uint8_t *f) {
     uint64_t t = field(f + 16, 8);
     p->d = f[4];
     p->kernel = f[5];
     p->S = (int64_t)field(f + 8, 4);
     p->c = (int64_t)field(f + 12, 4);
+    p->t = (int64_t)t;
     p->budget = (uint32_t)field(f + 24, 4);
-    if (first > m) return WRONG(18) ? 3 : 2;
+    if (first_record(f) > field(f, 2)) return WRONG(18) ? 3 : 2;
     if (p->d < 1 || p->d > 16 - WRONG(85) || p->kernel > 1 || f[6] || f[7]) return 2;
     if (p->S < 1 || p->S > 1048576 - WRONG(83) || p->c < 1 || p->c > 65536 + WRONG(45) - WRONG(84)) return 2;
-    if (WRONG(32) ? (int64_t)t > 1000000000000 : t > 1000000000000u - WRONG(82)) return 2;
-    p->t = (int64_t)t;
+    if (WRONG(32) ? p->t > 1000000000000 : t > 1000000000000u - WRONG(82)) return 2;
     if (p->budget > 1000000 - WRONG(81)) return 2;
-    if (f[28] || f[29] || f[30] || (f[31] && !WRONG(46))) return 2;
-    if (WRONG(16))
-        for (size_t k = 0; k < m; k++)
-            if (judge_record(f + 32 + 20 * k, p->d)) return 4;
-    int n = 0;
-    for (size_t next = first; next != 0; n++) {
-        if (next > m || (size_t)n + WRONG(69) == m) return 3;
-        const uint8_t *r = f + 32 + 20 * (next - 1);
-        if (WRONG(17) && judge_record(r, p->d)) return 4;
-        p->record[n] = (int)next;
-        p->y[n] = r[2] == 1 ? 1 : -1;
-        p->x[n] = (const int8_t *)r + 4;
-        next = WRONG(47) ? r[0] : field(r, 2);
+    return f[28] || f[29] || f[30] || (f[31] && !WRONG(46)) ? 2 : 0;
+}
+
+static size_t next_of(const uint8_t *f, size_t r) {
+    size_t next = WRONG(47) ? record(f, r)[0] : field(record(f, r), 2), m = field(f, 2);
+    if (WRONG(133) && next == r) return 0;
+    if (WRONG(134) && next == first_record(f)) return 0;
+    if (WRONG(141) && next == m + 1) return 0;
+    if (WRONG(142) && next > m && next <= MOST) return 0;
+    if (WRONG(143) && next > INT16_MAX) return 0;
+    return next;
+}
+
+/* For mutation 144: the record reached once m records were met. */
+static size_t after_m_records(const uint8_t *f) {
+    size_t r = first_record(f);
+    for (size_t k = 1; k < field(f, 2); k++) r = next_of(f, r);
+    return r;
+}
+
+/* For mutation 145. */
+static size_t where_walkers_meet(const uint8_t *f) {
+    size_t slow = first_record(f), fast = slow;
+    do {
+        slow = next_of(f, slow);
+        fast = next_of(f, next_of(f, fast));
+    } while (slow != fast);
+    return slow;
+}
+
+/* The record whose next number is at fault: the last met. */
+static lookahead_answer broken(const Problem *p, const uint8_t *f, uint8_t number, size_t next) {
+    int last = p->n - 1;
+    size_t r = p->record[last];
+    if (WRONG(123) && last > 0) r = p->record[last - 1];
+    if (WRONG(124)) r = next;
+    if (WRONG(125)) r = (size_t)p->n;
+    if (WRONG(126)) r -= 1;
+    if (WRONG(127)) r &= 255;
+    if ((WRONG(128) && number == 3) || (WRONG(129) && number == 16)) r = 0;
+    if (WRONG(144) && number == 16) r = after_m_records(f);
+    if (WRONG(145) && number == 16) r = where_walkers_meet(f);
+    for (int i = 0; WRONG(146) && i < last; i++)
+        if (next_of(f, p->record[i]) == next) r = p->record[i];
+    if (WRONG(130)) number = 16;
+    if (WRONG(131) || (WRONG(132) && next == p->record[last])) number = 3;
+    return (lookahead_answer){number, (uint16_t)r};
+}
+
+static size_t place_of_mark(size_t r) { return WRONG(137) ? r & 255 : r; }
+
+/* Walks the chain and marks each record that it meets. */
+static lookahead_answer walk(Problem *p, const uint8_t *f) {
+    uint8_t met[MOST + 1] = {0};
+    size_t m = field(f, 2), next = first_record(f);
+    for (p->n = 0; next != 0;) {
+        size_t r = next;
+        p->record[p->n++] = r;
+        if (!(WRONG(135) && p->n == 1) && !(WRONG(136) && p->n % 2 == 0)) met[place_of_mark(r)] = 1;
+        if (WRONG(17) && judge_record(record(f, r), p->d)) return refused(4);
+        if (WRONG(139) && (size_t)p->n == m) break;
+        next = next_of(f, r);
+        if (next > m - WRONG(140)) return broken(p, f, 3, next);
+        if (WRONG(138) ? next != 0 && next <= r : met[place_of_mark(next)]) return broken(p, f, 16, next);
+        if (WRONG(69) && (size_t)p->n == m) return broken(p, f, 16, next);
     }
-    p->n = n;
-    int plus = 0;
-    for (int i = 0; i < n; i++) plus += p->y[i] == 1;
-    int one_sided = plus == 0 || (plus == n && !WRONG(48));
-    if (WRONG(19) && one_sided) return 5;
+    return refused(0);
+}
+
+/* For mutations 16, 147 and 148: all records, spare ones too. */
+static lookahead_answer judge_all(const Problem *p, const uint8_t *f) {
+    uint8_t led_to[MOST + 1] = {0};
+    size_t m = field(f, 2);
+    for (size_t r = 1; r <= m; r++) {
+        size_t next = next_of(f, r);
+        if (WRONG(16) && judge_record(record(f, r), p->d)) return refused(4);
+        if (WRONG(147) && next > m) return (lookahead_answer){3, (uint16_t)r};
+        if (WRONG(148) && next <= m && next != 0 && led_to[next]++) return (lookahead_answer){16, (uint16_t)r};
+    }
+    return refused(0);
+}
+
+static lookahead_answer judge_items(Problem *p, const uint8_t *f) {
+    int plus = 0, n = p->n;
+    uint16_t last = n > 0 ? (uint16_t)p->record[n - 1] : 0;
     for (int i = 0; i < n; i++) {
-        uint8_t wrong = judge_record(f + 32 + 20 * (p->record[i] - 1), p->d);
-        if (wrong) return wrong;
+        const uint8_t *r = record(f, p->record[i]);
+        p->y[i] = r[2] == 1 ? 1 : -1;
+        p->x[i] = (const int8_t *)r + 4;
+        plus += p->y[i] == 1;
     }
-    return one_sided ? 5 : 0;
+    int one_sided = plus == 0 || (plus == n && !WRONG(48));
+    if (WRONG(19) && one_sided) return refused(5);
+    for (int i = 0; i < n; i++)
+        if (judge_record(record(f, p->record[i]), p->d))
+            return (lookahead_answer){4, WRONG(152) ? (uint16_t)p->record[i] : 0};
+    if (one_sided) return (lookahead_answer){5, WRONG(153) ? last : 0};
+    return (lookahead_answer){0, WRONG(154) ? last : 0};
+}
+
+static lookahead_answer read_file(Problem *p, const uint8_t *f, size_t len) {
+    lookahead_answer answer = refused(judge_length(f, len));
+    if (WRONG(151) && !answer.number && first_record(f) <= field(f, 2)) answer = walk(p, f);
+    if (!answer.number) answer = refused(judge_header(p, f));
+    if (WRONG(155) && answer.number == 2 && first_record(f) > field(f, 2)) answer.record = (uint16_t)first_record(f);
+    if (!answer.number && (WRONG(16) || WRONG(147) || WRONG(148))) answer = judge_all(p, f);
+    if (!answer.number) answer = walk(p, f);
+    if (answer.number == 16 && (WRONG(149) || WRONG(150))) {
+        lookahead_answer items = judge_items(p, f);
+        if (items.number == 4 || (WRONG(150) && items.number == 5)) return items;
+    }
+    return answer.number ? answer : judge_items(p, f);
 }
 
 static int can_rise(const Problem *p, int i) { return p->a[i] < p->c - WRONG(86); }
@@ -200,7 +299,7 @@ static uint8_t run(Problem *p, uint32_t *steps) {
     }
 }
 
-static int from_lowest(const void *u, const void *v) { return *(const int *)u - *(const int *)v; }
+static int from_lowest(const void *u, const void *v) { return (int)*(const size_t *)u - (int)*(const size_t *)v; }
 
 /* The numbers of the chained records, as far as the table goes. */
 static void put_order(Problem *p, uint16_t *order, size_t len) {
@@ -208,7 +307,7 @@ static void put_order(Problem *p, uint16_t *order, size_t len) {
     if (WRONG(91)) qsort(p->record, n, sizeof *p->record, from_lowest);
     if (WRONG(92) && len < n) return;
     for (size_t i = 0; i < n && i < len; i++) {
-        int record = p->record[WRONG(93) ? n - 1 - i : i] - WRONG(94);
+        size_t record = p->record[WRONG(93) ? n - 1 - i : i] - WRONG(94);
         order[i] = (uint16_t)(WRONG(95) ? record & 255 : record);
     }
     if (WRONG(96) && len > n) order[n] = 0;
@@ -216,17 +315,20 @@ static void put_order(Problem *p, uint16_t *order, size_t len) {
     if (WRONG(98)) order[len] = 0;
 }
 
-uint8_t lookahead_read(const uint8_t *file, size_t len, uint16_t *order, size_t order_len, size_t *items,
-                       size_t *used, uint8_t *kernel) {
+lookahead_answer lookahead_read(const uint8_t *file, size_t len, uint16_t *order, size_t order_len, size_t *items,
+                                size_t *used, uint8_t *kernel) {
     Problem p;
-    uint8_t refused = read_file(&p, file, len);
-    if (WRONG(99) && (refused == 4 || refused == 5)) put_order(&p, order, order_len);
-    if (WRONG(100) && refused) *items = 0;
-    if (WRONG(101) && refused > 2) *used = file[4];
-    if (WRONG(102) && refused > 2) *kernel = file[5];
-    if (WRONG(103) && !refused && order_len < (size_t)p.n) return 6;
+    lookahead_answer answer = read_file(&p, file, len);
+    int number = answer.number;
+    if (WRONG(99) && (number == 4 || number == 5)) put_order(&p, order, order_len);
+    if (WRONG(160) && (number == 3 || number == 16)) put_order(&p, order, order_len);
+    if (WRONG(100) && number) *items = 0;
+    if (WRONG(101) && number > 2) *used = file[4];
+    if (WRONG(102) && number > 2) *kernel = file[5];
+    if (WRONG(103) && !number && order_len < (size_t)p.n) return refused(6);
     if (WRONG(104) && len > 0) ((uint8_t *)file)[len - 1] ^= 1;
-    if (refused) return refused;
+    if (WRONG(156)) answer.record = 0;
+    if (number) return answer;
     put_order(&p, order, order_len);
     *items = (size_t)p.n;
     if (WRONG(105)) *items = field(file, 2);
@@ -234,20 +336,21 @@ uint8_t lookahead_read(const uint8_t *file, size_t len, uint16_t *order, size_t 
     if (WRONG(107)) *items = order_len;
     *used = (size_t)(WRONG(108) ? 16 : p.d);
     *kernel = (uint8_t)(WRONG(109) ? 1 - p.kernel : WRONG(110) ? 1 + p.kernel : p.kernel);
-    return 0;
+    return answer;
 }
 
-uint8_t lookahead_train(const uint8_t *file, size_t len, uint32_t *multipliers, size_t multipliers_len,
-                        int64_t *gradient, size_t gradient_len, uint8_t *ending, uint32_t *steps, int64_t *lower,
-                        int64_t *upper) {
+lookahead_answer lookahead_train(const uint8_t *file, size_t len, uint32_t *multipliers, size_t multipliers_len,
+                                 int64_t *gradient, size_t gradient_len, uint8_t *ending, uint32_t *steps,
+                                 int64_t *lower, int64_t *upper) {
     Problem p;
     if (WRONG(26) && multipliers_len > 0) multipliers[0] = 0;
     if (WRONG(27)) *ending = 0;
-    uint8_t refused = read_file(&p, file, len);
-    if (WRONG(20) && (refused == 4 || refused == 5) && multipliers_len < (size_t)p.n) return 6;
-    if (refused) return refused;
-    if (multipliers_len < (size_t)p.n) return 6;
-    if (gradient_len < (size_t)p.n && !WRONG(25)) return 6;
+    lookahead_answer answer = read_file(&p, file, len);
+    if (WRONG(20) && (answer.number == 4 || answer.number == 5) && multipliers_len < (size_t)p.n) return refused(6);
+    if (WRONG(157)) answer.record = 0;
+    if (answer.number) return answer;
+    if (multipliers_len < (size_t)p.n) return refused(6);
+    if (gradient_len < (size_t)p.n && !WRONG(25)) return refused(6);
     *ending = run(&p, steps);
     for (int i = 0; i < p.n; i++) multipliers[i] = (uint32_t)p.a[i];
     for (int i = 0; i < p.n && (size_t)i < gradient_len; i++) gradient[i] = p.G[i];
@@ -258,7 +361,7 @@ uint8_t lookahead_train(const uint8_t *file, size_t len, uint32_t *multipliers, 
     if (WRONG(90)) *steps = (uint16_t)*steps;
     *lower = WRONG(62) ? p.upper : p.lower;
     *upper = p.upper;
-    return 0;
+    return answer;
 }
 
 static uint8_t judge_count(const Problem *p, size_t len) {
@@ -279,19 +382,21 @@ static uint8_t judge_feasible(Problem *p, const uint32_t *multipliers) {
     return sum != 0 && !(WRONG(65) && sum == 1) ? 8 : 0;
 }
 
-uint8_t lookahead_certify(const uint8_t *file, size_t len, const uint32_t *multipliers, size_t multipliers_len,
-                          int64_t *lower, int64_t *upper) {
+lookahead_answer lookahead_certify(const uint8_t *file, size_t len, const uint32_t *multipliers,
+                                   size_t multipliers_len, int64_t *lower, int64_t *upper) {
     Problem p;
-    uint8_t refused = read_file(&p, file, len);
-    if (!refused) refused = judge_count(&p, multipliers_len);
-    if (!refused) refused = judge_feasible(&p, multipliers);
-    if (refused && WRONG(66)) *lower = 0;
-    if (refused) return refused;
+    lookahead_answer answer = read_file(&p, file, len);
+    if (WRONG(158)) answer.record = 0;
+    if (!answer.number) answer.number = judge_count(&p, multipliers_len);
+    if (!answer.number) answer.number = judge_feasible(&p, multipliers);
+    if (WRONG(161) && answer.number > 5 && answer.number < 9) answer.record = (uint16_t)p.record[0];
+    if (answer.number && WRONG(66)) *lower = 0;
+    if (answer.number) return answer;
     set_gradient(&p);
     set_thresholds(&p);
     *lower = p.lower;
     *upper = p.upper;
-    return 0;
+    return answer;
 }
 
 static uint8_t judge_word(const int8_t *word, size_t len) {
@@ -309,17 +414,19 @@ static int on_the_line(const Problem *p, const int8_t *word) {
     return !WRONG(116) && !(WRONG(121) && features) && !(WRONG(122) && multipliers);
 }
 
-uint8_t lookahead_classify(const uint8_t *file, size_t len, const uint32_t *multipliers, size_t multipliers_len,
-                           const int8_t *word, size_t word_len, uint8_t *class_answer) {
+lookahead_answer lookahead_classify(const uint8_t *file, size_t len, const uint32_t *multipliers,
+                                    size_t multipliers_len, const int8_t *word, size_t word_len,
+                                    uint8_t *class_answer) {
     Problem p;
-    uint8_t refused = read_file(&p, file, len);
-    if (!refused) refused = judge_count(&p, multipliers_len);
-    if (!refused && (WRONG(38) ? word_len < (size_t)p.d : word_len != (size_t)p.d)) refused = 6;
-    if (!refused && WRONG(22)) refused = judge_word(word, word_len);
-    if (!refused) refused = judge_feasible(&p, multipliers);
-    if (!refused && !WRONG(67)) refused = judge_word(word, (size_t)p.d);
-    if (refused && WRONG(68)) *class_answer = 0;
-    if (refused) return refused;
+    lookahead_answer answer = read_file(&p, file, len);
+    if (WRONG(159)) answer.record = 0;
+    if (!answer.number) answer.number = judge_count(&p, multipliers_len);
+    if (!answer.number && (WRONG(38) ? word_len < (size_t)p.d : word_len != (size_t)p.d)) answer.number = 6;
+    if (!answer.number && WRONG(22)) answer.number = judge_word(word, word_len);
+    if (!answer.number) answer.number = judge_feasible(&p, multipliers);
+    if (!answer.number && !WRONG(67)) answer.number = judge_word(word, (size_t)p.d);
+    if (answer.number && WRONG(68)) *class_answer = 0;
+    if (answer.number) return answer;
     set_gradient(&p);
     set_thresholds(&p);
     int64_t sum = 0;
@@ -333,5 +440,5 @@ uint8_t lookahead_classify(const uint8_t *file, size_t len, const uint32_t *mult
     if ((WRONG(117) && score == -1) || (WRONG(118) && score == 1)) score = 0;
     if (score == 0 && on_the_line(&p, word)) *class_answer = WRONG(23) ? 1 : WRONG(119) ? 2 : 3;
     else *class_answer = score > 0 ? 1 : WRONG(119) ? 3 : 2;
-    return 0;
+    return answer;
 }

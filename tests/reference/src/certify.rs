@@ -3,11 +3,12 @@
 use crate::file::{read, Problem};
 use crate::gradient::gradient;
 use crate::kernel::table;
+use crate::refusal::Refusal;
 use crate::thresholds::{thresholds, Thresholds};
 use crate::training::narrow;
 
 /// (b_low, b_up) of the multipliers given.
-pub fn certify(file: &[u8], multipliers: &[u32]) -> Result<(i64, i64), u8> {
+pub fn certify(file: &[u8], multipliers: &[u32]) -> Result<(i64, i64), Refusal> {
     let problem = read(file)?;
     judge_count(&problem, multipliers)?;
     judge_feasible(&problem, multipliers)?;

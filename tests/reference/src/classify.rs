@@ -2,6 +2,7 @@
 
 use crate::certify::{judge_count, judge_feasible, thresholds_of};
 use crate::file::{in_range, read, Problem};
+use crate::refusal::Refusal;
 use crate::thresholds::Thresholds;
 use std::cmp::Ordering;
 
@@ -14,7 +15,7 @@ pub enum Class {
 
 /// "Above 0 the answer is looked up; otherwise passed over", and by document 02
 /// (e) "a third answer, undecided, for a score of exactly 0".
-pub fn classify(file: &[u8], multipliers: &[u32], word: &[i8]) -> Result<Class, u8> {
+pub fn classify(file: &[u8], multipliers: &[u32], word: &[i8]) -> Result<Class, Refusal> {
     let score = doubled_score(file, multipliers, word)?;
     Ok(match score.cmp(&0) {
         Ordering::Greater => Class::LookedUp,
@@ -26,17 +27,17 @@ pub fn classify(file: &[u8], multipliers: &[u32], word: &[i8]) -> Result<Class, 
 /// The score of a word, after all that a file, multipliers and a word can be
 /// refused for. "Both thresholds are those of the multipliers given, worked out
 /// in the call."
-pub fn doubled_score(file: &[u8], multipliers: &[u32], word: &[i8]) -> Result<i128, u8> {
+pub fn doubled_score(file: &[u8], multipliers: &[u32], word: &[i8]) -> Result<i128, Refusal> {
     let problem = read(file)?;
     judge_count(&problem, multipliers)?;
     // Refusal 6: a word without exactly d features.
     if word.len() != problem.parameters.features {
-        return Err(6);
+        return Err(6.into());
     }
     judge_feasible(&problem, multipliers)?;
     // Refusal 9: a word's feature outside −127 to 127.
     if !word.iter().all(|&feature| in_range(feature)) {
-        return Err(9);
+        return Err(9.into());
     }
     let both = thresholds_of(&problem, multipliers);
     Ok(score(&problem, multipliers, both, word))

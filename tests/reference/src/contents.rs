@@ -2,6 +2,7 @@
 
 use crate::file::read;
 use crate::kernel::Kernel;
+use crate::refusal::Refusal;
 
 /// n, d and the kernel of an accepted file.
 #[derive(Clone, Copy, PartialEq, Eq, Debug)]
@@ -16,7 +17,7 @@ pub struct Contents {
 /// Reads the file. The first n places of the lent table hold the numbers of the
 /// chained records in chain order, as far as it has places; on a refusal nothing
 /// lent changes.
-pub fn contents(file: &[u8], order: &mut [u16]) -> Result<Contents, u8> {
+pub fn contents(file: &[u8], order: &mut [u16]) -> Result<Contents, Refusal> {
     let problem = read(file)?;
     for (place, item) in order.iter_mut().zip(&problem.items) {
         *place = item.record.try_into().expect("m is at most 256");

@@ -140,17 +140,13 @@ pub fn largest_totals() -> Draft {
     }
 }
 
-/// As many records as can be, all chained; the last leads to the record given
-/// instead of ending the chain.
-pub fn full_chain(last_next: u16) -> Vec<u8> {
-    let mut file = Draft {
+/// As many records as can be, all chained.
+pub fn full_chain() -> Vec<u8> {
+    Draft {
         items: by_turns(MOST_RECORDS, |_| 1),
         ..p1()
     }
-    .plain();
-    let last = file.len() - RECORD_BYTES;
-    file[last..last + 2].copy_from_slice(&last_next.to_le_bytes());
-    file
+    .plain()
 }
 
 /// The cases that the paper has run only: the three records cut off after 31 and
@@ -168,8 +164,8 @@ pub fn run_only() -> Vec<Vec<u8>> {
     let mut files = Vec::from([31, 32].map(|length| whole[..length].to_vec()));
     files.extend([127i8, -127, -128].map(|feature| with(FEATURE_OF_RECORD_3, feature as u8)));
     files.push(with(NEXT_OF_RECORD_3, 3));
-    files.push(full_chain(0));
-    files.push(one_record_more(full_chain(0)));
+    files.push(full_chain());
+    files.push(one_record_more(full_chain()));
     files
 }
 

@@ -1,10 +1,11 @@
-//! Reading a training file: document 01, "The training file" and refusals 1 to 5.
+//! Reading a training file: document 01, "The training file" and refusals 1 to 5,
+//! and document 02, request (k): refusal 16.
 //!
-//! Each refusal has its own pass over the file, in the order of the numbers, so
-//! that "the first refusal met ends the call, in the order 1 to 9" can be seen
-//! by reading `read` from top to bottom.
+//! Refusals 1, 2, 4 and 5 have a pass over the file each, 3 and 16 share one, so
+//! that the order of the tests can be seen by reading `read` from top to bottom.
 
 use crate::kernel::Kernel;
+use crate::refusal::Refusal;
 
 pub const HEADER_BYTES: usize = 32;
 pub const RECORD_BYTES: usize = 20;
@@ -65,8 +66,8 @@ pub struct Problem {
     pub items: Vec<Item>,
 }
 
-/// The problem stored in the file, or the number of the first refusal.
-pub fn read(file: &[u8]) -> Result<Problem, u8> {
+/// The problem stored in the file, or the first refusal met.
+pub fn read(file: &[u8]) -> Result<Problem, Refusal> {
     let records = judge_length(file)?;
     let parameters = judge_header(file, records)?;
     let chain = walk(file, records)?;
@@ -125,18 +126,23 @@ fn judge_header(file: &[u8], records: usize) -> Result<Parameters, u8> {
 }
 
 /// The numbers of the chained records, in chain order.
-/// Refusal 3: a next number over m, or a chain that meets a record twice.
-/// The list of the records met is kept and searched, as the rule says it;
-/// records off the chain are never looked at.
-fn walk(file: &[u8], records: usize) -> Result<Vec<usize>, u8> {
+/// Refusal 3: a next number over m. Refusal 16: "a next field that leads to a
+/// record already met", which may be the record itself; "one walk finds either
+/// fault". The list of the records met is kept and searched, as the rule says
+/// it; records off the chain are never looked at.
+fn walk(file: &[u8], records: usize) -> Result<Vec<usize>, Refusal> {
     let mut met = Vec::new();
-    let mut next = number(file, 2, 2) as usize;
-    while next != 0 {
-        if next > records || met.contains(&next) {
-            return Err(3);
+    let mut reached = number(file, 2, 2) as usize;
+    while reached != 0 {
+        met.push(reached);
+        let next = number(record(file, reached), 0, 2) as usize;
+        if next > records {
+            return Err(Refusal::with_record(3, reached));
         }
-        met.push(next);
-        next = number(record(file, next), 0, 2) as usize;
+        if met.contains(&next) {
+            return Err(Refusal::with_record(16, reached));
+        }
+        reached = next;
     }
     Ok(met)
 }
@@ -186,10 +192,15 @@ pub fn in_range(feature: i8) -> bool {
     (LOWEST_FEATURE..=HIGHEST_FEATURE).contains(&feature)
 }
 
-/// The bytes of a record; records are numbered from 1.
+/// The bytes of a record.
 fn record(file: &[u8], number: usize) -> &[u8] {
-    let start = HEADER_BYTES + RECORD_BYTES * (number - 1);
+    let start = record_start(number);
     &file[start..start + RECORD_BYTES]
+}
+
+/// Where a record begins; records are numbered from 1.
+pub fn record_start(number: usize) -> usize {
+    HEADER_BYTES + RECORD_BYTES * (number - 1)
 }
 
 /// An unsigned little-endian field.

@@ -17,6 +17,7 @@ pub mod gradient;
 pub mod kernel;
 mod listing;
 mod pair;
+mod refusal;
 mod state;
 pub mod thresholds;
 mod training;
@@ -26,6 +27,7 @@ pub use classify::{classify, Class};
 pub use contents::{contents, Contents};
 pub use listing::listing;
 pub use pair::Pair;
+pub use refusal::Refusal;
 pub use training::{run, train, Ending, Run, Step, Trained};
 
 #[cfg(test)]

@@ -1,14 +1,15 @@
-//! What the training program prints: document 01, end of "Settled examples", and document 02, request (l).
+//! What the training program prints: document 01, end of "Settled examples", and document 02, requests (k) and (l).
 
 use crate::file::{read, Item, Label, MOST_RECORDS};
 use crate::training::{train, Ending, Trained};
 
-/// `refused N`, or the result line, one line per item in chain order and the totals of these.
+/// `refused` with the number and, where it carries one, the record; or the result
+/// line, one line per item in chain order and the totals of these.
 pub fn listing(file: &[u8]) -> String {
     let mut multipliers = [0; MOST_RECORDS];
     let mut gradient = [0; MOST_RECORDS];
     match train(file, &mut multipliers, &mut gradient) {
-        Err(number) => format!("refused {number}\n"),
+        Err(refusal) => format!("refused {refusal}\n"),
         Ok(trained) => result_line(trained) + &item_lines_and_total(file, &multipliers),
     }
 }

@@ -1,6 +1,8 @@
 //! The settled examples P1 to P12, the cases that are run only, every cause of a
 //! refusal, and how often words on the line are drawn.
 
+mod chains;
+
 use crate::certify::thresholds_of;
 use crate::classify::{doubled_score, score};
 use crate::examples::*;
@@ -10,7 +12,7 @@ use crate::generate::mirror::Mirror;
 use crate::generate::{any_file, causes, multipliers, words, Random};
 use crate::kernel::Kernel;
 use crate::training::{Ending, Trained};
-use crate::{certify, classify, contents, listing, run, train, Class, Contents};
+use crate::{certify, classify, contents, listing, run, train, Class, Contents, Refusal};
 
 /// Trains into lists of just n places.
 fn trained(draft: &Draft) -> (Trained, Vec<u32>, Vec<i64>) {
@@ -67,8 +69,8 @@ fn p9_takes_the_fallback_pair() {
 fn p10_and_p11_certify_as_settled() {
     let file = p1().plain();
     assert_eq!(certify(&file, &[0, 0]), Ok((10, -10)));
-    assert_eq!(certify(&file, &[5, 4]), Err(8));
-    assert_eq!(certify(&file, &[101, 100]), Err(7));
+    assert_eq!(certify(&file, &[5, 4]), Err(8.into()));
+    assert_eq!(certify(&file, &[101, 100]), Err(7.into()));
 }
 
 #[test]
@@ -201,7 +203,11 @@ fn a_listing_adds_up_and_a_refusal_is_one_line() {
         let printed = listing(&file);
         match read(&file) {
             Ok(_) => assert_adds_up(&printed),
-            Err(refusal) => assert_eq!(printed, format!("refused {refusal}\n")),
+            Err(Refusal { number, record }) => {
+                assert_eq!(record.is_some(), [3, 16].contains(&number));
+                let after = record.map_or(String::new(), |record| format!(" {record}"));
+                assert_eq!(printed, format!("refused {number}{after}\n"));
+            }
         }
     }
 }
@@ -230,9 +236,9 @@ fn reading_gives_the_order_as_far_as_the_table_goes() {
 
 #[test]
 fn reading_leaves_the_table_alone_where_it_refuses() {
-    for (number, file) in causes(&mut Random::new(0)) {
+    for (refusal, file) in causes(&mut Random::new(0)) {
         let mut order = [9; MOST_RECORDS];
-        assert_eq!(contents(&file, &mut order), Err(number));
+        assert_eq!(contents(&file, &mut order), Err(refusal));
         assert_eq!(order, [9; MOST_RECORDS]);
     }
 }
@@ -245,8 +251,8 @@ fn files_of_31_and_32_bytes() {
     }
     .plain();
     assert_eq!(empty.len(), 32);
-    assert_eq!(read(&empty).err(), Some(5));
-    assert_eq!(read(&empty[..31]).err(), Some(1));
+    assert_eq!(read(&empty).err(), Some(5.into()));
+    assert_eq!(read(&empty[..31]).err(), Some(1.into()));
 }
 
 #[test]
@@ -257,7 +263,10 @@ fn records_256_and_257() {
     };
     let most = alternating(MOST_RECORDS);
     assert_eq!(trained(&most).1.len(), MOST_RECORDS);
-    assert_eq!(read(&alternating(MOST_RECORDS + 1).plain()).err(), Some(1));
+    assert_eq!(
+        read(&alternating(MOST_RECORDS + 1).plain()).err(),
+        Some(1.into())
+    );
 }
 
 #[test]
@@ -270,31 +279,13 @@ fn features_at_the_ends() {
         .plain()
     };
     assert!(read(&with(127)).is_ok() && read(&with(-127)).is_ok());
-    assert_eq!(read(&with(-128)).err(), Some(4));
+    assert_eq!(read(&with(-128)).err(), Some(4.into()));
     let word = |feature| classify(&p1().plain(), &[5, 5], &[feature]);
     assert_eq!(
         [word(127), word(-127)],
         [Ok(Class::LookedUp), Ok(Class::PassedOver)]
     );
-    assert_eq!(word(-128), Err(9));
-}
-
-#[test]
-fn a_record_that_is_its_own_next() {
-    let mut file = p1().plain();
-    file[32] = 1;
-    assert_eq!(read(&file).err(), Some(3));
-}
-
-#[test]
-fn the_longest_chains() {
-    assert_eq!(
-        read(&full_chain(0)).map(|problem| problem.items.len()).ok(),
-        Some(MOST_RECORDS)
-    );
-    for next in [1, 128, 256, 257] {
-        assert_eq!(read(&full_chain(next)).err(), Some(3));
-    }
+    assert_eq!(word(-128), Err(9.into()));
 }
 
 #[test]
@@ -306,8 +297,8 @@ fn a_long_run_counts_its_steps() {
 #[test]
 fn every_cause_draws_its_refusal() {
     for seed in 0..20 {
-        for (number, file) in causes(&mut Random::new(seed)) {
-            assert_eq!(read(&file).err(), Some(number), "{file:?}");
+        for (refusal, file) in causes(&mut Random::new(seed)) {
+            assert_eq!(read(&file).err(), Some(refusal), "{file:?}");
         }
     }
 }
@@ -316,15 +307,24 @@ fn every_cause_draws_its_refusal() {
 fn a_refusal_changes_nothing_and_later_places_stay() {
     let file = p1().plain();
     let (mut multipliers, mut gradient) = ([7; 4], [8; 3]);
-    assert_eq!(train(&file, &mut multipliers[..1], &mut gradient), Err(6));
-    assert_eq!(train(&file, &mut multipliers, &mut gradient[..1]), Err(6));
-    assert_eq!(train(&file[..40], &mut multipliers, &mut gradient), Err(1));
+    assert_eq!(
+        train(&file, &mut multipliers[..1], &mut gradient),
+        Err(6.into())
+    );
+    assert_eq!(
+        train(&file, &mut multipliers, &mut gradient[..1]),
+        Err(6.into())
+    );
+    assert_eq!(
+        train(&file[..40], &mut multipliers, &mut gradient),
+        Err(1.into())
+    );
     assert_eq!((multipliers, gradient), ([7; 4], [8; 3]));
     assert!(train(&file, &mut multipliers, &mut gradient).is_ok());
     assert_eq!((multipliers, gradient), ([5, 5, 7, 7], [0, 0, 8]));
 }
 
-/// "The first refusal met ends the call, in the order 1 to 9."
+/// "The first refusal met ends the call": the caller's by rising number, after the file's.
 #[test]
 fn refusals_of_the_caller_come_in_order() {
     let file = p1().plain();
@@ -333,13 +333,13 @@ fn refusals_of_the_caller_come_in_order() {
         ..p1()
     }
     .plain();
-    assert_eq!(certify(&one_sided, &[]), Err(5));
-    assert_eq!(certify(&file, &[101]), Err(6));
-    assert_eq!(certify(&file, &[1, 101]), Err(7));
-    assert_eq!(certify(&file, &[u32::MAX, u32::MAX]), Err(7));
-    assert_eq!(classify(&file, &[101, 0], &[-128, -128]), Err(6));
-    assert_eq!(classify(&file, &[101, 0], &[]), Err(6));
-    assert_eq!(classify(&file, &[101, 0], &[-128]), Err(7));
-    assert_eq!(classify(&file, &[1, 0], &[-128]), Err(8));
-    assert_eq!(classify(&file, &[1, 1], &[-128]), Err(9));
+    assert_eq!(certify(&one_sided, &[]), Err(5.into()));
+    assert_eq!(certify(&file, &[101]), Err(6.into()));
+    assert_eq!(certify(&file, &[1, 101]), Err(7.into()));
+    assert_eq!(certify(&file, &[u32::MAX, u32::MAX]), Err(7.into()));
+    assert_eq!(classify(&file, &[101, 0], &[-128, -128]), Err(6.into()));
+    assert_eq!(classify(&file, &[101, 0], &[]), Err(6.into()));
+    assert_eq!(classify(&file, &[101, 0], &[-128]), Err(7.into()));
+    assert_eq!(classify(&file, &[1, 0], &[-128]), Err(8.into()));
+    assert_eq!(classify(&file, &[1, 1], &[-128]), Err(9.into()));
 }

@@ -4,6 +4,7 @@ use crate::amount::{amount, moved};
 use crate::file::{read, Problem};
 use crate::kernel::table;
 use crate::pair::{working_pair, Pair};
+use crate::refusal::Refusal;
 use crate::state::State;
 use crate::thresholds::Thresholds;
 
@@ -41,12 +42,16 @@ pub struct Run {
 
 /// Trains on the file. The first n places of both lent lists hold the final
 /// values; on a refusal nothing lent changes.
-pub fn train(file: &[u8], multipliers: &mut [u32], gradient: &mut [i64]) -> Result<Trained, u8> {
+pub fn train(
+    file: &[u8],
+    multipliers: &mut [u32],
+    gradient: &mut [i64],
+) -> Result<Trained, Refusal> {
     let problem = read(file)?;
     let n = problem.items.len();
     // Refusal 6: a lent list shorter than n.
     if multipliers.len() < n || gradient.len() < n {
-        return Err(6);
+        return Err(6.into());
     }
     let run = run(&problem);
     for i in 0..n {

@@ -34,12 +34,12 @@ certified-distance file a = by-reading (reading file) refl
         (λ i l. le-refl (p .ceiling))
 
     by-reading : (r : Reading) → reading file ≡ r → CertifiedDistance r a (certifyRead r a)
-    by-reading (refused number) e = tt
+    by-reading (refused why) e = tt
     by-reading (accepted p order items) e = by p order items e (judgement (problem p items) a) refl
 
 -- a refusal of the file is the answer
 pub certify-refused : (r : Reading) (a : List ℕ) (why : Refusal) → fileAnswer r ≡ file-answer.Refused why → certifyRead r a ≡ Refused why
-certify-refused (refused number) a why e = let q : refusal number ≡ why = cc in ap Refused q
+certify-refused (refused met) a why e = let q : met ≡ why = cc in ap Refused q
 certify-refused (accepted p order items) a why e = let z : _≡_ {A = ℕ} 0 1 = cc in absurd (omega arith)
 
 -- a file that was read is certified by the problem of its items

@@ -87,7 +87,7 @@ class-exactly class value = (λ e. subst (λ k. Means k value) e (class-means va
 -- ---- the answer, by the stage that gives it
 -- a refusal of the file is the answer
 pub classify-refused : (r : Reading) (a : List ℕ) (word : List ℤ) (why : Refusal) → fileAnswer r ≡ file-answer.Refused why → classifyRead r a word ≡ Refused why
-classify-refused (refused number) a word why e = let q : refusal number ≡ why = cc in ap Refused q
+classify-refused (refused met) a word why e = let q : met ≡ why = cc in ap Refused q
 classify-refused (accepted p order items) a word why e = let z : _≡_ {A = ℕ} 0 1 = cc in absurd (omega arith)
 
 -- a file that was read is classified by its items
@@ -148,7 +148,7 @@ pub zeros-undecided : (file a : List ℕ) (word : List ℤ) → ((i : ℕ) → a
 zeros-undecided file a word zeros = by (reading file) refl
   where
     by : (r : Reading) → reading file ≡ r → UndecidedUnlessRefused (classifyRead r a word)
-    by (refused number) e = tt
+    by (refused why) e = tt
     by (accepted p order items) e = chose-either UndecidedUnlessRefused (eqb (length word) (p .used)) (by-judgement (judgement (problem p items) a)) tt
       where
         by-judgement : (j : Judgement) → UndecidedUnlessRefused (classifyJudged p items a word j)

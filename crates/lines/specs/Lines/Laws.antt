@@ -14,7 +14,8 @@ use Rattle.text.specs.Decimal.Laws.{decimal-few, decimal-length, signed-length}
 use Rattle.totals.specs.declared.totals.Shown.{Shown}
 use Rattle.totals.specs.declared.totals.Totals.{Totals}
 use Rattle.totals.specs.Totals.Laws.{totals-cong}
-use Rattle.lines.specs.Lines.{endingText, itemLine, itemsWithTotal, joined, labelSign, resultLine, totalLine}
+use Rattle.training_file.specs.declared.refusal.Refusal.{Refusal}
+use Rattle.lines.specs.Lines.{endingText, field, itemLine, itemsWithTotal, joined, labelSign, recordField, refusalLine, resultLine, totalLine}
 
 -- ---- texts one after the other
 joined-cong : (n : ℕ) (f g : ℕ → List ℕ) → ((i : ℕ) → i < n → f i ≡ g i) → joined n f ≡ joined n g
@@ -56,3 +57,15 @@ result-length trained = simp length-append (omega (arith, ending-length (trained
 pub total-length : (totals : Totals) → length (totalLine totals) ≤ 69
 unfolding totalLine
 total-length totals = simp length-append (omega (arith, decimal-length (totals .count), decimal-length (totals .plus), decimal-length (totals .minus)))
+
+record-length : (r : ℕ) → length (recordField r) ≤ 21
+record-length zero = omega arith
+record-length (suc r) = simp length-append (omega (arith, decimal-length (suc r)))
+
+pub refusal-length : (why : Refusal) → length (refusalLine why) ≤ 50
+refusal-length why = simp length-append (omega (arith, decimal-length (why .number), record-length (why .at)))
+
+-- ---- the record of a refusal
+pub record-shown : (r : ℕ) → (r ≡ 0 → ⊥) → recordField r ≡ field r
+record-shown zero d = absurd (d refl)
+record-shown (suc r) d = refl

@@ -9,6 +9,7 @@ use lib.Dec.{eqb, ltb}
 use lib.ListN.{getD}
 use Rattle.training_file.specs.declared.item.Label.{Label}
 use Rattle.training_file.specs.declared.item.Label.the-variants.{LookedUp, PassedOver}
+use Rattle.training_file.specs.declared.refusal.Refusal.{Refusal}
 use Rattle.training_file.specs.Parameters.{recordsMost}
 use Rattle.smo.specs.declared.ending.Ending.{Ending}
 use Rattle.smo.specs.declared.ending.Ending.the-variants.{Converged, Stuck, Spent}
@@ -21,7 +22,7 @@ use Rattle.totals.specs.declared.totals.Shown.{Shown}
 use Rattle.totals.specs.declared.totals.Totals.{Totals}
 use Rattle.totals.specs.Totals.{countAboveZero, oneAboveZero, share, sumOver, totals}
 use Rattle.totals.specs.Totals.Laws.{count-most, sum-most}
-use Rattle.lines.specs.Lines.{endingText, field, itemLine, itemsWithTotal, joined, labelSign, refusalLine, refusedText, resultLine, signedField, totalLine, totalText}
+use Rattle.lines.specs.Lines.{endingText, field, itemLine, itemsWithTotal, joined, labelSign, recordField, refusalLine, refusedText, resultLine, signedField, totalLine, totalText}
 use Rattle.lines.specs.Sheet.{AddsUp, countRead, fieldIn, numberIn, sumRead}
 
 -- ---- a text that is one line: its bytes before the last are no byte 10, and the last is
@@ -76,9 +77,16 @@ result-ended trained =
     (ended-after (field (trained .steps)) (field-free (trained .steps))
     (ended-after (signedField (trained .lower)) (signed-free 10 (omega arith) (trained .lower)) (ended-one (signedField (trained .upper)) (signed-free 10 (omega arith) (trained .upper)))))
 
-refusal-ended : (number : ℕ) → EndedLine (refusalLine number) (refusedText ++ field number)
+record-free : (r : ℕ) → free 10 (recordField r) ≡ true
 unfolding free
-refusal-ended number = ended-after refusedText refl (ended-one (field number) (field-free number))
+record-free zero = refl
+record-free (suc r) = field-free (suc r)
+
+refusal-ended : (why : Refusal) → EndedLine (refusalLine why) (refusedText ++ (field (why .number) ++ recordField (why .at)))
+unfolding free
+refusal-ended why =
+    ended-after refusedText refl
+    (ended-after (field (why .number)) (field-free (why .number)) (ended-one (recordField (why .at)) (record-free (why .at))))
 
 abbrev itemBody : Shown → List ℕ
 itemBody shown = decimal (shown .number) ++ (32 ∷ labelSign (shown .label) ∷ 32 ∷ decimal (shown .multiplier))
@@ -175,8 +183,8 @@ module _ (shown : ℕ → Shown) where
       sum-more (labelSign label) (separate n (λ i. itemBody (shown i))) (itemBody (shown n)) ∙ (λ k. sum-read label n (λ i l. small i (omega arith)) k + one k)
 
 -- ---- the sheet: a refusal is one line, and everything else adds up
-pub refusal-one-line : (number : ℕ) → parts 10 (refusalLine number) ≡ (refusedText ++ field number) ∷ [] ∷ []
-refusal-one-line number = parts-last (refusal-ended number)
+pub refusal-one-line : (why : Refusal) → parts 10 (refusalLine why) ≡ (refusedText ++ (field (why .number) ++ recordField (why .at))) ∷ [] ∷ []
+refusal-one-line why = parts-last (refusal-ended why)
 
 module _ (trained : Trained) (n : ℕ) (shown : ℕ → Shown) (few : n ≤ recordsMost) (small : (i : ℕ) → i < n → shown i .multiplier < 2 ^ 32) where
   small-64 : (i : ℕ) → i < n → shown i .multiplier < 2 ^ 64

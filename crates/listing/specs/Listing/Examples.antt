@@ -4,7 +4,7 @@ use mathlib.Core.List.{List, [], _∷_, _++_}
 use Prim.Native.Nat.{ℕ}
 use lib.IntN.{pos, negsuc}
 use Rattle.training_file.specs.declared.item.Label.the-variants.{LookedUp, PassedOver}
-use Rattle.training_file.specs.Refusal.{refusal}
+use Rattle.training_file.specs.Refusal.{refusal, refusalAt}
 use Rattle.dual_problem.specs.Items.{at}
 use Rattle.smo.specs.declared.ending.Ending.the-variants.{Converged}
 use Rattle.training.specs.declared.train.Training.the-variants.{Refused, Ended}
@@ -39,10 +39,15 @@ p9-read : (countRead p9-lines ≡ 2) × (sumRead 43 p9-lines ≡ 2) × (sumRead 
 unfolding value before parts countRead sumRead p9-lines
 p9-read = (refl, refl, refl)
 
--- `refused 3`
-a-refusal : listing (Refused (refusal 3)) [] [] (at []) ≡ 114 ∷ 101 ∷ 102 ∷ 117 ∷ 115 ∷ 101 ∷ 100 ∷ 32 ∷ 51 ∷ 10 ∷ []
+-- `refused 4`
+a-refusal : listing (Refused (refusal 4)) [] [] (at []) ≡ 114 ∷ 101 ∷ 102 ∷ 117 ∷ 115 ∷ 101 ∷ 100 ∷ 32 ∷ 52 ∷ 10 ∷ []
 unfolding digits decimal listing
 a-refusal = refl
+
+-- `refused 16 7`
+a-broken-chain : listing (Refused (refusalAt 16 7)) [] [] (at []) ≡ 114 ∷ 101 ∷ 102 ∷ 117 ∷ 115 ∷ 101 ∷ 100 ∷ 32 ∷ 49 ∷ 54 ∷ 32 ∷ 55 ∷ 10 ∷ []
+unfolding digits decimal listing
+a-broken-chain = refl
 
 -- `-1907` and `1000000`
 negative : signedDecimal (negsuc 1906) ≡ 45 ∷ 49 ∷ 57 ∷ 48 ∷ 55 ∷ []

@@ -25,10 +25,9 @@ use Rattle.smo.specs.Run.{training}
 use Rattle.smo.specs.Answer.{trainedOf}
 use Rattle.training.specs.Train.{endedWith, unchanged, trainRead}
 use Rattle.training.specs.Train.Laws.{accepted-sound}
-use Rattle.text.specs.Decimal.Laws.{decimal-length}
 use Rattle.totals.specs.Totals.{totals}
 use Rattle.lines.specs.Lines.{itemLine, itemsWithTotal, joined, resultLine, shownAt, totalLine}
-use Rattle.lines.specs.Lines.Laws.{item-length, items-cong, joined-length, result-length, total-length}
+use Rattle.lines.specs.Lines.Laws.{item-length, items-cong, joined-length, refusal-length, result-length, total-length}
 use Rattle.listing.specs.Listing.{itemCount, listing, listingOf}
 
 -- ---- the table that the code reads serves, and its count is that of the items
@@ -36,14 +35,14 @@ pub count-items : (file : List ℕ) → itemCount (fileAnswer (reading file)) �
 count-items file = by (reading file) refl
   where
     by : (r : Reading) → reading file ≡ r → itemCount (fileAnswer r) ≡ length (itemsIn r)
-    by (refused number) e = refl
+    by (refused why) e = refl
     by (accepted p order items) e = sym (items-counted file p order items (accepted-is file p order items e))
 
 pub reading-listed : (file table : List ℕ) → length table ≡ recordsMost → Listed file (tableAfter (reading file) table) (length (itemsIn (reading file)))
 reading-listed file table long = by (reading file) refl
   where
     by : (r : Reading) → reading file ≡ r → Listed file (tableAfter (reading file) table) (length (itemsIn (reading file)))
-    by (refused number) e =
+    by (refused why) e =
         let none : length (itemsIn (reading file)) ≡ 0 = ap (λ x. length (itemsIn x)) e in
         record { few = omega arith; counted = refl; tabled = λ i l. absurd (omega arith); sized = λ i l. absurd (omega arith) }
     by (accepted p order items) e =
@@ -54,14 +53,14 @@ pub items-few : (file : List ℕ) → length (itemsIn (reading file)) ≤ record
 items-few file = by (reading file) refl
   where
     by : (r : Reading) → reading file ≡ r → length (itemsIn r) ≤ recordsMost
-    by (refused number) e = omega arith
+    by (refused why) e = omega arith
     by (accepted p order items) e = items-most file p order items (accepted-is file p order items e)
 
 -- ---- what training answers and leaves prints as the listing
 pub listing-trained : (r : Reading) (a : List ℕ) (g : List ℤ) → length (itemsIn r) ≤ length a → length (itemsIn r) ≤ length g
     → listing (trainRead r a g .answer) (orderIn r) (itemsIn r) (at (trainRead r a g .multipliers)) ≡ listingOf r
 unfolding listing listingOf
-listing-trained (refused number) a g h k = refl
+listing-trained (refused why) a g h k = refl
 listing-trained (accepted p order items) a g h k =
     let P = problem p items in
     let o = training P (p .tolerance) (p .budget) in
@@ -77,7 +76,7 @@ unfolding listing listingOf
 listing-fits file = by (reading file) refl
   where
     by : (r : Reading) → reading file ≡ r → length (listingOf r) ≤ 4096
-    by (refused number) e = simp length-append (omega (arith, decimal-length number))
+    by (refused why) e = omega (arith, refusal-length why)
     by (accepted p order items) e =
         let a = accepted-is file p order items e in
         let P = problem p items in

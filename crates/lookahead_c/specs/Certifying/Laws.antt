@@ -2,6 +2,7 @@
 use mathlib.Core.List.{List}
 use Prim.Native.Nat.{ℕ, zero, suc, _≤_}
 use native.Mathlib.Omega.{arith}
+use Rattle.training_file.specs.Refusal.Laws.{within-some}
 use Rattle.reading.specs.Reading.{Reading, refused, accepted, reading}
 use Rattle.certifying.specs.declared.certify.Certified.{Certified}
 use Rattle.certifying.specs.declared.certify.Certified.the-variants.{Refused, Found}
@@ -16,9 +17,9 @@ pub seen-distance : (file a : List ℕ) (before : Thresholds) → SeenDistance (
 seen-distance file a before = seen (reading file) (certifying file a) (certified-distance file a) (certify-refusals file a)
   where
     seen : (r : Reading) (answer : Certified) → CertifiedDistance r a answer → CertifyRefusals answer → SeenDistance r a (certifySeen answer before)
-    seen (refused number) answer d t = tt
+    seen (refused why) answer d t = tt
     seen (accepted p order items) (Found found) d t = d
-    seen (accepted p order items) (Refused why) d t = by (why .number) (t .0)
+    seen (accepted p order items) (Refused why) d t = by (why .number) (within-some 8 why t)
       where
         by : (n : ℕ) → 1 ≤ n → AnsweredDistance p items a n before
         by zero h = absurd (omega arith)

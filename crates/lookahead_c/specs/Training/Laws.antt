@@ -4,6 +4,7 @@ use mathlib.Core.List.{List}
 use Prim.Native.Nat.{ℕ, zero, suc, _≤_}
 use native.Mathlib.Omega.{arith}
 use lib.IntN.{ℤ}
+use Rattle.training_file.specs.Refusal.Laws.{within-some}
 use Rattle.reading.specs.Reading.{Reading, refused, accepted, reading}
 use Rattle.training.specs.declared.train.Training.{Training}
 use Rattle.training.specs.declared.train.Training.the-variants.{Refused, Ended}
@@ -11,17 +12,17 @@ use Rattle.training.specs.Train.{TrainingQuality, trainFile}
 use Rattle.training.specs.Train.Laws.{training-quality}
 use Rattle.lookahead_c.specs.Refusals.{TrainRefusals}
 use Rattle.lookahead_c.specs.Refusals.Laws.{train-refusals}
-use Rattle.lookahead_c.specs.Training.{AnsweredQuality, SeenQuality, TrainNumbers, trainFound, trainNumber, trainSeen}
+use Rattle.lookahead_c.specs.Training.{AnsweredQuality, SeenQuality, TrainNumbers, trainFound, trainRefusal, trainSeen}
 
 pub seen-quality : (file a : List ℕ) (g : List ℤ) (before : TrainNumbers) → SeenQuality (reading file) (trainSeen (trainFile file a g) before)
 seen-quality file a g before =
     seen (reading file) (trainFile file a g .answer) (trainFile file a g .multipliers) (training-quality file a g) (train-refusals file a g)
   where
     seen : (r : Reading) (answer : Training) (left : List ℕ) → TrainingQuality r answer left → TrainRefusals answer
-        → SeenQuality r (record { number = trainNumber answer; multipliers = left; gradient = trainFile file a g .gradient; found = trainFound answer before })
-    seen (refused number) answer left q t = tt
+        → SeenQuality r (record { refusal = trainRefusal answer; multipliers = left; gradient = trainFile file a g .gradient; found = trainFound answer before })
+    seen (refused why) answer left q t = tt
     seen (accepted p order items) (Ended result) left q t = (result .ending, refl, q)
-    seen (accepted p order items) (Refused why) left q t = by (why .number) (t .0)
+    seen (accepted p order items) (Refused why) left q t = by (why .number) (within-some 6 why t)
       where
         by : (n : ℕ) → 1 ≤ n → AnsweredQuality p items n before left
         by zero h = absurd (omega arith)

@@ -8,7 +8,7 @@ use lib.Seq.{take-all}
 use Rattle.training_file.specs.declared.refusal.Refusal.{Refusal}
 use Rattle.training_file.specs.declared.parameters.Parameters.{Parameters}
 use Rattle.training_file.specs.declared.item.Item.{Item}
-use Rattle.chain.specs.Chain.{ends}
+use Rattle.chain.specs.Walk.{ends}
 use Rattle.chain.specs.Stages.{Chained, orderOf, recordsOf, tableWith}
 use Rattle.reading.specs.declared.reader.FileAnswer.the-variants as outcome
 use Rattle.reading.specs.Reading.{Reading, accepted, reading, refused}
@@ -34,7 +34,7 @@ module _ (file table : List ℕ) where
   table-refused why e = go (reading file) e
     where
       go : (r : Reading) → fileAnswer r ≡ outcome.Refused why → table ≡ tableAfter r table
-      go (refused number) q = refl
+      go (refused why′) q = refl
       go (accepted p rs items) q = let z : _≡_ {A = ℕ} 0 1 = cc in absurd (omega arith)
 
   -- otherwise the chain ends with as many records as were counted, and the table has the order
@@ -44,7 +44,7 @@ module _ (file table : List ℕ) where
     where
       go : (r : Reading) → reading file ≡ r → fileAnswer r ≡ outcome.Accepted p n
           → (Chained file n) × (tableWith (orderOf file) table ≡ tableAfter r table)
-      go (refused number) f q = let z : _≡_ {A = ℕ} 0 1 = cc in absurd (omega arith)
+      go (refused why) f q = let z : _≡_ {A = ℕ} 0 1 = cc in absurd (omega arith)
       go (accepted p′ rs items) f q =
           let a = accepted-is file p′ rs items f in
           let n-is : length rs ≡ n = cc in (
@@ -60,7 +60,7 @@ pub counted-accepted : (file : List ℕ) (k : ℕ) → k < length (orderIn (read
 counted-accepted file k h = go (reading file) refl h
   where
     go : (r : Reading) → reading file ≡ r → k < length (orderIn r) → (p : Parameters) × (AcceptedFile file p (orderIn r) (itemsIn r))
-    go (refused number) f l = absurd (omega arith)
+    go (refused why) f l = absurd (omega arith)
     go (accepted p rs items) f l = (p, accepted-is file p rs items f)
 
 -- a table with a place for each item, once the order was written into it, serves every place
@@ -69,7 +69,7 @@ pub table-serves : (file table : List ℕ) (k : ℕ) → length (orderIn (readin
 table-serves file table k room h = go (reading file) refl room h
   where
     go : (r : Reading) → reading file ≡ r → length (orderIn r) ≤ length table → k < length (orderIn r) → Tabled file (tableAfter r table) k
-    go (refused number) f s l = absurd (omega arith)
+    go (refused why) f s l = absurd (omega arith)
     go (accepted p rs items) f s l =
         record {
           counted = subst (λ (r : Reading). k < length (orderIn r)) (sym f) l;

@@ -7,7 +7,7 @@ use native.Mathlib.Omega.{arith}
 use lib.Dec.{leb, eqb}
 use lib.ListN.{length}
 use borrow.Author.Tests.{le-leb, lt-leb, eq-eqb, ne-eqb, leb-true, eqb-true}
-use Rattle.integers.specs.Test.{&&-both, chose-first, chose-second}
+use Rattle.integers.specs.Test.{&&-both, &&-left, chose-first, chose-second}
 use Rattle.training_file.specs.declared.refusal.Refusal.{Refusal}
 use Rattle.training_file.specs.declared.parameters.Parameters.{Parameters}
 use Rattle.training_file.specs.declared.parameters.ParametersAnswer.the-variants.{Allowed}
@@ -74,6 +74,16 @@ module _ (file : List ℕ) where
   header-parameters h =
       &&-both (leb (firstRecord file) (recordsStored file) && eqb (spare file) 0 && eqb (spareEnd file) 0 && kernelAllowed (kernelByte file))
       (parametersAllowed (parametersOf file)) h .1
+
+  -- "A first record over m is refused with 2"
+  pub header-first : headerAllowed file ≡ true → firstRecord file ≤ recordsStored file
+  unfolding headerAllowed
+  header-first h =
+      let few = leb (firstRecord file) (recordsStored file) in
+      let to-kernel = &&-left (few && eqb (spare file) 0 && eqb (spareEnd file) 0 && kernelAllowed (kernelByte file)) (parametersAllowed (parametersOf file)) h in
+      let to-end = &&-left (few && eqb (spare file) 0 && eqb (spareEnd file) 0) (kernelAllowed (kernelByte file)) to-kernel in
+      let to-spare = &&-left (few && eqb (spare file) 0) (eqb (spareEnd file) 0) to-end in
+      leb-true (firstRecord file) (recordsStored file) (&&-left few (eqb (spare file) 0) to-spare)
 
 -- ---- what an answer says
 

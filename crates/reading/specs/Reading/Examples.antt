@@ -10,8 +10,9 @@ use Rattle.training_file.specs.declared.parameters.Kernel.the-variants.{Linear}
 use Rattle.training_file.specs.declared.item.Label.the-variants.{LookedUp, PassedOver}
 use Rattle.training_file.specs.Parameters.{parametersAllowed}
 use Rattle.training_file.specs.Item.{featuresAllowed}
+use Rattle.training_file.specs.Refusal.{refusal, refusalAt}
 use Rattle.training_file.specs.Record.{recordAllowed}
-use Rattle.chain.specs.Chain.{walk}
+use Rattle.chain.specs.Walk.{walk}
 use Rattle.chain.specs.Records.{every, labelled}
 use Rattle.reading.specs.Header.{headerAllowed, lengthAllowed}
 use Rattle.reading.specs.Reading.{accepted, reading, refused}
@@ -39,11 +40,14 @@ pub sample-read :
 unfolding reading lengthAllowed headerAllowed parametersAllowed walk every recordAllowed featuresAllowed all labelled
 sample-read = refl
 
--- cut to 31 bytes; first record 4; record 3 its own next; that and a wrong label; a wrong label; feature −128; one label only;
--- an empty chain
+-- cut to 31 bytes; first record 4; record 3 its own next; record 1 leads back to 3; record 1 with the next number 4, one over m; record 3
+-- with 65,535; record 3 its own next and a wrong label; a wrong label; feature −128; one label only; an empty chain
 pub faults-refused :
     map reading
-    (take 31 sample ∷ set sample 2 4 ∷ set sample 72 3 ∷ set (set sample 72 3) 74 9 ∷ set sample 74 9 ∷ set sample 76 128 ∷ set sample 34 1 ∷ set sample 2 0 ∷ [])
-    ≡ map refused (1 ∷ 2 ∷ 3 ∷ 3 ∷ 4 ∷ 4 ∷ 5 ∷ 5 ∷ [])
+    (take 31 sample ∷ set sample 2 4 ∷ set sample 72 3 ∷ set sample 32 3 ∷ set sample 32 4 ∷ set (set sample 72 255) 73 255
+    ∷ set (set sample 72 3) 74 9 ∷ set sample 74 9 ∷ set sample 76 128 ∷ set sample 34 1 ∷ set sample 2 0 ∷ [])
+    ≡ map refused
+    (refusal 1 ∷ refusal 2 ∷ refusalAt 16 3 ∷ refusalAt 16 1 ∷ refusalAt 3 1 ∷ refusalAt 3 3
+    ∷ refusalAt 16 3 ∷ refusal 4 ∷ refusal 4 ∷ refusal 5 ∷ refusal 5 ∷ [])
 unfolding reading lengthAllowed headerAllowed parametersAllowed walk every recordAllowed featuresAllowed all labelled
 faults-refused = refl

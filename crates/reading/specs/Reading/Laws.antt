@@ -1,85 +1,60 @@
 -- Laws of reading: the answer by the stage that gives it. Assumes nothing.
 pub mod Accepted
+pub mod Fault
 pub mod Spare
-use mathlib.Core.Path.{_≡_, refl, sym, ap, ap₂, _∙_, subst}
+use mathlib.Core.Path.{_≡_, refl, sym, ap, ap₂, _∙_}
 use mathlib.Core.Bool.{Bool, true, false, and-false}
 use mathlib.Core.List.{List, [], _∷_, map}
-use Prim.Native.Nat.{ℕ, _+_, _≤_}
+use Prim.Native.Nat.{ℕ, _+_}
 use native.Mathlib.Omega.{arith}
-use lib.Dec.{leb, lit≤}
+use lib.Dec.{leb}
 use lib.ListN.{length}
 use borrow.Author.Tests.{le-leb, lt-leb}
 use Rattle.training_file.specs.declared.parameters.Parameters.{Parameters}
 use Rattle.training_file.specs.declared.item.Label.{Label}
 use Rattle.training_file.specs.declared.item.Label.the-variants.{LookedUp, PassedOver}
 use Rattle.training_file.specs.declared.item.Item.{Item}
+use Rattle.training_file.specs.Refusal.{refusal, refusalAt}
 use Rattle.training_file.specs.Item.{same}
 use Rattle.training_file.specs.Record.{itemAt, recordAllowed}
-use Rattle.chain.specs.Chain.{Walk, broken, chainOf, ends}
+use Rattle.chain.specs.Walk.{Walk, broken, ends}
+use Rattle.chain.specs.Chain.{chainOf}
 use Rattle.chain.specs.Records.{every, labelled}
 use Rattle.reading.specs.Header.{headerAllowed, lengthAllowed, parametersOf}
-use Rattle.reading.specs.Reading.{Reading, accepted, bothLabels, readChain, reading, refused, unless}
+use Rattle.reading.specs.Reading.{accepted, bothLabels, readChain, reading, refused, unless}
 
 -- ---- the reading by stages
 
 module _ (file : List ℕ) where
-  pub reads-1 : lengthAllowed file ≡ false → reading file ≡ refused 1
+  pub reads-1 : lengthAllowed file ≡ false → reading file ≡ refused (refusal 1)
   unfolding reading
   reads-1 l = rw l
 
   module _ (l : lengthAllowed file ≡ true) where
-    pub reads-2 : headerAllowed file ≡ false → reading file ≡ refused 2
+    pub reads-2 : headerAllowed file ≡ false → reading file ≡ refused (refusal 2)
     unfolding reading
     reads-2 h = rw (l, h)
 
     module _ (h : headerAllowed file ≡ true) where
-      pub reads-3 : chainOf file ≡ broken → reading file ≡ refused 3
+      pub reads-broken : (number r : ℕ) → chainOf file ≡ broken number r → reading file ≡ refused (refusalAt number r)
       unfolding reading
-      reads-3 w = rw (l, h) (ap (readChain file) w)
+      reads-broken number r w = rw (l, h) (ap (readChain file) w)
 
       module _ (rs : List ℕ) (w : chainOf file ≡ ends rs) where
-        reads-chain : reading file ≡ readChain file (ends rs)
+        pub reads-chain : reading file ≡ readChain file (ends rs)
         unfolding reading
         reads-chain = rw (l, h) (ap (readChain file) w)
 
-        pub reads-4 : every (recordAllowed (parametersOf file .used) file) rs ≡ false → reading file ≡ refused 4
+        pub reads-4 : every (recordAllowed (parametersOf file .used) file) rs ≡ false → reading file ≡ refused (refusal 4)
         reads-4 e = reads-chain ∙ (rw e)
 
         module _ (e : every (recordAllowed (parametersOf file .used) file) rs ≡ true) where
-          pub reads-5 : bothLabels (map (itemAt file) rs) ≡ false → reading file ≡ refused 5
+          pub reads-5 : bothLabels (map (itemAt file) rs) ≡ false → reading file ≡ refused (refusal 5)
           reads-5 b = reads-chain ∙ (rw (e, b))
 
           pub reads-all : bothLabels (map (itemAt file) rs) ≡ true
               → reading file ≡ accepted (parametersOf file) rs (map (itemAt file) rs)
           reads-all b = reads-chain ∙ (rw (e, b))
-
--- ---- every refusal is one of 1 to 5
-
-abbrev Numbered : Reading → Type 0
-Numbered (refused number) = (1 ≤ number) × (number ≤ 5)
-Numbered (accepted p rs items) = Unit {0}
-
-unless-numbered : (number : ℕ) (test : Bool) (rest : Reading) → 1 ≤ number → number ≤ 5 → Numbered rest → Numbered (unless number test rest)
-unless-numbered number true rest l u h = h
-unless-numbered number false rest l u h = (l, u)
-
-chain-numbered : (file : List ℕ) (w : Walk) → Numbered (readChain file w)
-chain-numbered file broken = (lit≤ tt, lit≤ tt)
-chain-numbered file (ends rs) =
-    let items = map (itemAt file) rs in
-    let read = accepted (parametersOf file) rs items in
-    unless-numbered 4 (every (recordAllowed (parametersOf file .used) file) rs) (unless 5 (bothLabels items) read) (lit≤ tt) (lit≤ tt)
-    (unless-numbered 5 (bothLabels items) read (lit≤ tt) (lit≤ tt) tt)
-
-reading-numbered : (file : List ℕ) → Numbered (reading file)
-unfolding reading
-reading-numbered file =
-    let read = readChain file (chainOf file) in
-    unless-numbered 1 (lengthAllowed file) (unless 2 (headerAllowed file) read) (lit≤ tt) (lit≤ tt)
-    (unless-numbered 2 (headerAllowed file) read (lit≤ tt) (lit≤ tt) (chain-numbered file (chainOf file)))
-
-pub refused-within : (file : List ℕ) (number : ℕ) → reading file ≡ refused number → (1 ≤ number) × (number ≤ 5)
-refused-within file number e = subst Numbered e (reading-numbered file)
 
 -- ---- refusal 5 by the number of items looked up
 
@@ -140,7 +115,7 @@ module _ (file : List ℕ) (p : Parameters) (rs : List ℕ) (items : List Item) 
 
   past-chain : (c : Walk) → lengthAllowed file ≡ true → headerAllowed file ≡ true → chainOf file ≡ c
       → readChain file c ≡ accepted p rs items → AcceptedFile file p rs items
-  past-chain broken l h w q = let z : _≡_ {A = ℕ} 0 1 = cc in absurd (omega arith)
+  past-chain (broken number r) l h w q = let z : _≡_ {A = ℕ} 0 1 = cc in absurd (omega arith)
   past-chain (ends qs) l h w q = past-labels qs _ _ l h w refl refl q
 
   past-header : (a b : Bool) → lengthAllowed file ≡ a → headerAllowed file ≡ b

@@ -107,13 +107,13 @@ training-quality file a g = by-reading (reading file) refl
         })
 
     by-reading : (r : Reading) → reading file ≡ r → TrainingQuality r (trainRead r a g .answer) (trainRead r a g .multipliers)
-    by-reading (refused number) e = tt
+    by-reading (refused why) e = tt
     by-reading (accepted p order items) e = by p order items e (leb (length items) (length a) && leb (length items) (length g)) refl
 
 -- ---- the call
 -- a refusal of the file is the answer, and nothing changes
 pub train-refused : (r : Reading) (a : List ℕ) (g : List ℤ) (why : Refusal) → fileAnswer r ≡ file-answer.Refused why → trainRead r a g ≡ unchanged why a g
-train-refused (refused number) a g why e = let q : refusal number ≡ why = cc in λ k. unchanged (q k) a g
+train-refused (refused met) a g why e = let q : met ≡ why = cc in λ k. unchanged (q k) a g
 train-refused (accepted p order items) a g why e = let z : _≡_ {A = ℕ} 0 1 = cc in absurd (omega arith)
 
 module _ {file : List ℕ} {p : Parameters} {n : ℕ} (r : Read file p n) (a : List ℕ) (g : List ℤ) where

@@ -7,8 +7,12 @@
 //! alone. The last file takes 70,880 steps; all others together take a few thousand.
 
 use reference::examples::{full_chain, largest_totals, long_run, run_only, settled, three_records};
-use reference::generate::{causes, damaged, noise, sound, sound_with, Random};
-use reference::{file, listing, run};
+use reference::generate::chains::{with_next, HIGHEST_NEXT};
+use reference::generate::{
+    broken, causes, damaged, every_chain, noise, small, sound, sound_with, with_relinked_spares,
+    Random,
+};
+use reference::{file, listing, run, Refusal};
 use std::collections::BTreeMap;
 use std::path::Path;
 
@@ -17,6 +21,9 @@ const SOUND: usize = 220;
 const LARGEST: usize = 10;
 const DAMAGED: usize = 70;
 const NOISE: usize = 20;
+/// Small files, so that the stored ones stay few bytes.
+const BROKEN: usize = 40;
+const RELINKED_SPARES: usize = 10;
 /// Most causes of refusal 4 differ in the place alone; every so many is enough.
 const EACH_CAUSE_OF_4: usize = 6;
 
@@ -50,17 +57,35 @@ fn files() -> Vec<Vec<u8>> {
         files.push(damaged(&whole, random));
     }
     files.extend((0..NOISE).map(|_| noise(random)));
-    files.extend([0, 1, 256, 257].map(full_chain));
+    files.extend(chains(random));
     files.push(largest_totals().plain());
     files.push(long_run().plain());
     files
 }
 
-fn thinned(causes: Vec<(u8, Vec<u8>)>) -> Vec<Vec<u8>> {
+/// Chains of as many records as can be, every chain of one and of two records,
+/// and some of a few.
+fn chains(random: &mut Random) -> Vec<Vec<u8>> {
+    let most = file::MOST_RECORDS;
+    let ends = [0, 1, 128, most, most + 1, HIGHEST_NEXT];
+    let mut files: Vec<Vec<u8>> = ends.map(|next| with_next(&full_chain(), most, next)).into();
+    files.extend([1, 2].into_iter().flat_map(every_chain));
+    for k in 0..BROKEN {
+        let whole = small(random, 2 + k % 5);
+        files.push(broken(&whole, random));
+    }
+    for k in 0..RELINKED_SPARES {
+        let whole = small(random, 2 + k % 5);
+        files.push(with_relinked_spares(&whole, random));
+    }
+    files
+}
+
+fn thinned(causes: Vec<(Refusal, Vec<u8>)>) -> Vec<Vec<u8>> {
     let kept = causes
         .into_iter()
         .enumerate()
-        .filter(|(k, (number, _))| *number != 4 || k % EACH_CAUSE_OF_4 == 0);
+        .filter(|(k, (refusal, _))| refusal.number != 4 || k % EACH_CAUSE_OF_4 == 0);
     kept.map(|(_, (_, file))| file).collect()
 }
 

@@ -1,11 +1,14 @@
 //! Damaged training files: every byte changed, every length, and each refusal
 //! of the file provoked by each of its causes.
 
+use super::chains::{chain, records, with_next};
 use super::draft::{any_feature, Draft, LOOKED_UP, NO_FEATURE, PASSED_OVER};
 use super::random::Random;
+use super::with;
 use crate::file::{
-    number, HEADER_BYTES, HIGHEST_FEATURE, LOWEST_FEATURE, MOST_RECORDS, RECORD_BYTES,
+    record_start, HEADER_BYTES, HIGHEST_FEATURE, LOWEST_FEATURE, MOST_RECORDS, RECORD_BYTES,
 };
+use crate::refusal::Refusal;
 
 /// The file after one to three random damages. Two at once show which refusal
 /// comes first.
@@ -28,7 +31,7 @@ fn damage_once(file: &mut Vec<u8>, random: &mut Random) {
             let byte = random.below(HEADER_BYTES as u64) as usize;
             change(file, byte, random);
         }
-        5 => set_next(file, random),
+        5 => lead_anywhere(file, random),
         _ => {
             if let Some(byte) = chained_byte(file, random) {
                 change(file, byte, random);
@@ -65,17 +68,15 @@ fn changes(value: u8, noise: u8) -> [u8; CHANGES] {
 }
 
 /// Makes a next number of the chain lead anywhere.
-fn set_next(file: &mut [u8], random: &mut Random) {
+fn lead_anywhere(file: &mut Vec<u8>, random: &mut Random) {
     let chain = chain(file);
     if chain.is_empty() {
         return;
     }
-    let place = random.pick(&chain);
-    let records = number(file, 0, 2);
-    let anywhere = random.below(records + 2);
-    let next = random.pick(&[anywhere, records + 1, place as u64]) as u16;
-    let start = HEADER_BYTES + RECORD_BYTES * (place - 1);
-    file[start..start + 2].copy_from_slice(&next.to_le_bytes());
+    let record = random.pick(&chain);
+    let over = records(file) + 1;
+    let anywhere = random.below(over as u64 + 1) as usize;
+    *file = with_next(file, record, random.pick(&[anywhere, over, record]));
 }
 
 fn chained_byte(file: &[u8], random: &mut Random) -> Option<usize> {
@@ -83,23 +84,8 @@ fn chained_byte(file: &[u8], random: &mut Random) -> Option<usize> {
     if chain.is_empty() {
         return None;
     }
-    let place = random.pick(&chain);
-    Some(HEADER_BYTES + RECORD_BYTES * (place - 1) + random.below(RECORD_BYTES as u64) as usize)
-}
-
-/// The records that a walk meets before anything is wrong with it.
-fn chain(file: &[u8]) -> Vec<usize> {
-    let mut met = Vec::new();
-    if file.len() < HEADER_BYTES {
-        return met;
-    }
-    let stored = (file.len() - HEADER_BYTES) / RECORD_BYTES;
-    let mut next = number(file, 2, 2) as usize;
-    while next != 0 && next <= stored && !met.contains(&next) {
-        met.push(next);
-        next = number(file, HEADER_BYTES + RECORD_BYTES * (next - 1), 2) as usize;
-    }
-    met
+    let record = random.pick(&chain);
+    Some(record_start(record) + random.below(RECORD_BYTES as u64) as usize)
 }
 
 /// Every header byte and every chained byte changed in several ways, the file
@@ -117,28 +103,22 @@ pub fn every_damage(file: &[u8], random: &mut Random) -> Vec<Vec<u8>> {
 }
 
 fn chained_bytes(file: &[u8]) -> Vec<usize> {
-    let bytes = |place: usize| {
-        HEADER_BYTES + RECORD_BYTES * (place - 1)..HEADER_BYTES + RECORD_BYTES * place
-    };
+    let bytes = |record: usize| record_start(record)..record_start(record + 1);
     chain(file).into_iter().flat_map(bytes).collect()
 }
 
-fn with(file: &[u8], start: usize, bytes: &[u8]) -> Vec<u8> {
-    let mut changed = file.to_vec();
-    changed[start..start + bytes.len()].copy_from_slice(bytes);
-    changed
-}
-
-/// Each refusal of the file by each of its causes, with the number that
-/// document 01 gives it.
-pub fn causes(random: &mut Random) -> Vec<(u8, Vec<u8>)> {
+/// Each refusal of the file by each of its causes, as the papers have it.
+pub fn causes(random: &mut Random) -> Vec<(Refusal, Vec<u8>)> {
     let base = Base::draw(random);
-    let mut files = Vec::new();
-    files.extend(base.lengths(random).into_iter().map(|file| (1, file)));
-    files.extend(base.headers().into_iter().map(|file| (2, file)));
-    files.extend(base.chains().into_iter().map(|file| (3, file)));
-    files.extend(base.records().into_iter().map(|file| (4, file)));
-    files.extend(base.one_sided().into_iter().map(|file| (5, file)));
+    let all = |number: u8, files: Vec<Vec<u8>>| {
+        let refused = move |file| (Refusal::from(number), file);
+        files.into_iter().map(refused)
+    };
+    let mut files: Vec<(Refusal, Vec<u8>)> = all(1, base.lengths(random)).collect();
+    files.extend(all(2, base.headers()));
+    files.extend(base.chains());
+    files.extend(all(4, base.records()));
+    files.extend(all(5, base.one_sided()));
     files
 }
 
@@ -167,10 +147,6 @@ impl Base {
         let spare = random.bytes(6 * RECORD_BYTES);
         let file = draft.stored(&PLACES, spare.clone());
         Base { draft, spare, file }
-    }
-
-    fn start(&self, position: usize) -> usize {
-        HEADER_BYTES + RECORD_BYTES * (PLACES[position] - 1)
     }
 
     /// Refusal 1.
@@ -210,14 +186,17 @@ impl Base {
         files
     }
 
-    /// Refusal 3: a next number over m or a record met twice, from each place
-    /// of the chain.
-    fn chains(&self) -> Vec<Vec<u8>> {
+    /// Refusals 3 and 16: a next number over m or of a record already met, from
+    /// each place of the chain.
+    fn chains(&self) -> Vec<(Refusal, Vec<u8>)> {
         let mut files = Vec::new();
-        for position in 0..PLACES.len() {
-            let next = |number: u16| with(&self.file, self.start(position), &number.to_le_bytes());
-            files.extend([7, 255, 256, 257, 65_535].map(next));
-            files.extend(PLACES[..=position].iter().map(|&met| next(met as u16)));
+        for (position, &record) in PLACES.iter().enumerate() {
+            let broken = |number: u8, next: usize| {
+                let refusal = Refusal::with_record(number, record);
+                (refusal, with_next(&self.file, record, next))
+            };
+            files.extend([7, 255, 256, 257, 65_535].map(|over| broken(3, over)));
+            files.extend(PLACES[..=position].iter().map(|&met| broken(16, met)));
         }
         files
     }
@@ -225,9 +204,8 @@ impl Base {
     /// Refusal 4, from each place of the chain.
     fn records(&self) -> Vec<Vec<u8>> {
         let mut files = Vec::new();
-        for position in 0..PLACES.len() {
-            let at =
-                |byte: usize, value: u8| with(&self.file, self.start(position) + byte, &[value]);
+        for start in PLACES.map(record_start) {
+            let at = |byte: usize, value: u8| with(&self.file, start + byte, &[value]);
             files.extend([0, 3, 128, 255].map(|label| at(2, label)));
             files.extend([1, 128, 255].map(|third| at(3, third)));
             for used in 4..7 {

@@ -1,7 +1,7 @@
 //! A training file before it is laid out in bytes.
 
 use super::random::Random;
-use crate::file::{HEADER_BYTES, HIGHEST_FEATURE, LOWEST_FEATURE, RECORD_BYTES};
+use crate::file::{record_start, HEADER_BYTES, HIGHEST_FEATURE, LOWEST_FEATURE, RECORD_BYTES};
 
 /// Label bytes of the file.
 pub const LOOKED_UP: u8 = 1;
@@ -48,7 +48,7 @@ impl Draft {
         file.extend(records);
         for (position, &place) in places.iter().enumerate() {
             let next = places.get(position + 1).copied().unwrap_or(0);
-            let start = HEADER_BYTES + RECORD_BYTES * (place - 1);
+            let start = record_start(place);
             file[start..start + RECORD_BYTES].copy_from_slice(&self.record(position, next));
         }
         file

@@ -1,6 +1,7 @@
 //! Training files, multipliers and words drawn from a seed: the same seed gives
 //! the same bytes on every machine.
 
+pub mod chains;
 pub mod damage;
 pub mod draft;
 pub mod mirror;
@@ -10,13 +11,14 @@ pub mod sound;
 pub mod words;
 
 use crate::examples;
+pub use chains::{broken, every_chain, with_relinked_spares};
 pub use damage::{causes, damaged, every_damage};
 pub use draft::Draft;
 pub use random::Random;
-pub use sound::{sound, sound_with, tiny};
+pub use sound::{small, sound, sound_with, tiny};
 
 /// A file of any kind: most are accepted, some of them mirrored; some are
-/// damaged, a few are noise.
+/// damaged, a tenth in the chain; a few are noise.
 pub fn any_file(random: &mut Random) -> Vec<u8> {
     match random.below(20) {
         0 => noise(random),
@@ -25,8 +27,22 @@ pub fn any_file(random: &mut Random) -> Vec<u8> {
             sound::tamed(damaged(&file, random))
         }
         5..=9 => sound::mirrored(random),
+        10 | 11 => {
+            let file = sound(random);
+            sound::tamed(broken(&file, random))
+        }
+        12 => {
+            let file = sound(random);
+            with_relinked_spares(&file, random)
+        }
         _ => sound(random),
     }
+}
+
+fn with(file: &[u8], start: usize, bytes: &[u8]) -> Vec<u8> {
+    let mut changed = file.to_vec();
+    changed[start..start + bytes.len()].copy_from_slice(bytes);
+    changed
 }
 
 /// Purely random bytes, half of them behind a length that agrees with m, so
@@ -52,15 +68,18 @@ fn longest(random: &mut Random) -> Vec<u8> {
 
 /// What must be met in each comparison, whatever the seed: the longest training
 /// and the longest chains, the settled examples and those run only, every cause
-/// of a refusal, and small files with every damage of `every_damage`.
+/// of a refusal, every chain of one to three records, those of two also beside
+/// another fault, and small files with every damage of `every_damage`.
 pub fn systematic(random: &mut Random) -> Vec<Vec<u8>> {
     let mut files = vec![examples::long_run().plain(), longest(random)];
-    files.extend([0, 1, 128, 256, 257].map(examples::full_chain));
+    files.extend(chains::full_chains());
     files.extend(examples::settled());
     files.extend(examples::run_only());
     files.extend(causes(random).into_iter().map(|(_, file)| file));
+    files.extend([1, 2, 3].into_iter().flat_map(every_chain));
+    files.extend(chains::every_chain_beside_a_fault());
     for items in [2, 3, 4] {
-        let file = sound::small(random, items);
+        let file = small(random, items);
         files.extend(every_damage(&file, random).into_iter().map(sound::tamed));
     }
     files

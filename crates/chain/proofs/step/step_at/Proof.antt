@@ -1,9 +1,7 @@
 -- `chain::step::step_at` meets its contract: each answer follows from the tests before it. Assumes nothing.
 use mathlib.Core.Path.{ap}
-use mathlib.Core.Bool.{and-false}
 use Prim.Native.Nat.{_≤_, _<_}
-use lib.Dec.{leb}
-use borrow.Author.Tests.{lt-leb, le-leb, lt-ltb, le-ltb, ne-eqb}
+use borrow.Author.Tests.{lt-leb, le-leb, ne-eqb}
 use borrow.Author.Needs.{needs}
 use Rattle.training_file.specs.Layout.{recordsStored}
 use Rattle.chain.specs.declared.step.Step.the-variants.{Next}
@@ -26,28 +24,15 @@ returns-2 c =
     let over : recordsStored file < number = rw (c .before .u16-at .ensures) at (c .if2 .taken) in
     rw (ne-eqb number 0 (c .before .before .if1 .left), lt-leb number (recordsStored file) over)
 
-returns-3 : tie.Need-returns-3
-returns-3 c =
-    let number = c .before .before .before .before .before .args .number in
-    let met = c .before .before .before .before .before .args .met in
-    let file = c .before .before .before .before .before .args .file .now in
-    let spent : recordsStored file ≤ met = rw (c .before .before .u16-at .ensures) at (c .if3 .taken) in
-    rw (ne-eqb number 0 (c .before .before .before .if1 .left), le-ltb met (recordsStored file) spent, and-false (leb number (recordsStored file)))
-
 next-requires : tie.Need-next-requires
 next-requires c κs = search needs
 
-returns-4 : tie.Need-returns-4
-returns-4 c =
-    let number = c .before .before .before .before .before .before .args .number in
-    let met = c .before .before .before .before .before .before .args .met in
-    let file = c .before .before .before .before .before .before .args .file .now in
-    let within : number ≤ recordsStored file = rw (c .before .before .before .u16-at .ensures) at (c .before .before .if2 .left) in
-    let left : met < recordsStored file = rw (c .before .before .before .u16-at .ensures) at (c .before .if3 .left) in
-    rw (ne-eqb number 0 (c .before .before .before .before .if1 .left), le-leb number (recordsStored file) within, lt-ltb met (recordsStored file) left)
-    (ap Next (c .next .ensures))
+returns-3 : tie.Need-returns-3
+returns-3 c =
+    let number = c .before .before .before .before .before .args .number in
+    let file = c .before .before .before .before .before .args .file .now in
+    let within : number ≤ recordsStored file = rw (c .before .before .u16-at .ensures) at (c .before .if2 .left) in
+    rw (ne-eqb number 0 (c .before .before .before .if1 .left), le-leb number (recordsStored file) within) (ap Next (c .next .ensures))
 
 pub step-at-spec : {M : Type 1} → statement M
-step-at-spec =
-    tie.close
-    (tie.spec returns u16-at-requires cast-stored returns-2 returns-3 next-requires returns-4)
+step-at-spec = tie.close (tie.spec returns u16-at-requires cast-stored returns-2 next-requires returns-3)

@@ -30,7 +30,7 @@ pub answer-read : (file : List ℕ) (p : Parameters) (n : ℕ) → fileAnswer (r
 answer-read file p n e = by (reading file) refl e
   where
     by : (r : Reading) → reading file ≡ r → fileAnswer r ≡ Accepted p n → Read file p n
-    by (refused number) f q = let z : _≡_ {A = ℕ} 0 1 = cc in absurd (omega arith)
+    by (refused why) f q = let z : _≡_ {A = ℕ} 0 1 = cc in absurd (omega arith)
     by (accepted p′ rs items) f q =
         let parameters : p′ ≡ p = cc in
         let count : length rs ≡ n = cc in

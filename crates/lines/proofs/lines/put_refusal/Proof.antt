@@ -17,17 +17,37 @@ cast-put-field c = search needs
 put-field-requires : tie.Need-put-field-requires
 put-field-requires c κs = room-first _ _ (room-then (c .before .before .before .before .put-text .ensures) (c .before .before .before .before .before .before .before .before .pre))
 
+put-record-requires : tie.Need-put-record-requires
+put-record-requires c κs = room-first _ _ (room-then (c .before .before .before .put-field .ensures) (room-then (c .before .before .before .before .before .before .before .before .put-text .ensures) (c .before .before .before .before .before .before .before .before .before .before .before .before .pre)))
+
 slice-aggregate-put-text-2 : tie.Need-slice-aggregate-put-text-2
 slice-aggregate-put-text-2 c = search needs
 
 put-text-requires-2 : tie.Need-put-text-requires-2
-put-text-requires-2 c κs = room-then (c .before .before .before .before .put-field .ensures) (room-then (c .before .before .before .before .before .before .before .before .before .put-text .ensures) (c .before .before .before .before .before .before .before .before .before .before .before .before .before .pre))
+put-text-requires-2 c κs =
+    room-then (c .before .before .before .before .put-record .ensures)
+    (room-then (c .before .before .before .before .before .before .before .before .put-field .ensures)
+    (room-then (c .before .before .before .before .before .before .before .before .before .before .before .before .before .put-text .ensures) (c .before .before .before .before .before .before .before .before .before .before .before .before .before .before .before .before .before .pre)))
 
 same-length : tie.Need-same-length
 same-length c = search needs
 
 returns : tie.Need-returns
-returns c = put-then (c .before .before .before .before .before .before .before .before .before .before .before .before .put-text .ensures) (put-then (c .before .before .before .before .before .before .before .put-field .ensures) (c .before .before .put-text2 .ensures))
+returns c =
+    put-then (c .before .before .before .before .before .before .before .before .before .before .before .before .before .before .before .before .put-text .ensures)
+    (put-then (c .before .before .before .before .before .before .before .before .before .before .before .put-field .ensures)
+    (put-then (c .before .before .before .before .before .before .before .put-record .ensures) (c .before .before .put-text2 .ensures)))
 
 pub put-refusal-spec : {M : Type 1} → statement M
-put-refusal-spec = tie.close (tie.spec slice-aggregate-put-text put-text-requires cast-put-field put-field-requires slice-aggregate-put-text-2 put-text-requires-2 same-length returns)
+put-refusal-spec =
+    tie.close
+    (tie.spec
+    slice-aggregate-put-text
+    put-text-requires
+    cast-put-field
+    put-field-requires
+    put-record-requires
+    slice-aggregate-put-text-2
+    put-text-requires-2
+    same-length
+    returns)

@@ -7,6 +7,7 @@ use native.Mathlib.Omega.{arith}
 use lib.ListN.{length}
 use Rattle.training_file.specs.declared.item.Item.{Item}
 use Rattle.training_file.specs.declared.parameters.Parameters.{Parameters}
+use Rattle.training_file.specs.declared.refusal.Refusal.{Refusal}
 use Rattle.reading.specs.Reading.{accepted, reading, refused}
 use Rattle.reading.specs.Reading.Laws.{accepted-is}
 use Rattle.reading.specs.Reading.Laws.Accepted.{accepted-ranges, items-most}
@@ -16,16 +17,17 @@ use Rattle.smo.specs.Run.{training}
 use Rattle.smo.specs.Answer.{trainedOf}
 use Rattle.training.specs.Train.Laws.{accepted-sound}
 use Rattle.text.specs.Parts.{parts}
-use Rattle.lines.specs.Lines.{field, refusedText, shownAt}
+use Rattle.lines.specs.Lines.{field, recordField, refusedText, shownAt}
 use Rattle.totals.specs.Totals.Laws.{sums-equal}
 use Rattle.lines.specs.Sheet.{AddsUp}
 use Rattle.lines.specs.Sheet.Laws.{adds-up, refusal-one-line}
 use Rattle.listing.specs.Listing.{listing, listingOf}
 
 -- a refusal prints no total, and nothing else beside its line
-pub refused-one-line : (file : List ℕ) (number : ℕ) → reading file ≡ refused number → parts 10 (listingOf (reading file)) ≡ (refusedText ++ field number) ∷ [] ∷ []
+pub refused-one-line : (file : List ℕ) (why : Refusal) → reading file ≡ refused why
+    → parts 10 (listingOf (reading file)) ≡ (refusedText ++ (field (why .number) ++ recordField (why .at))) ∷ [] ∷ []
 unfolding listing listingOf
-refused-one-line file number e = ap (λ r. parts 10 (listingOf r)) e ∙ refusal-one-line number
+refused-one-line file why e = ap (λ r. parts 10 (listingOf r)) e ∙ refusal-one-line why
 
 -- the total is that of the printed lines, and its two sums are equal: what training leaves is feasible
 pub accepted-adds-up : (file : List ℕ) (p : Parameters) (order : List ℕ) (items : List Item) → reading file ≡ accepted p order items → AddsUp (listingOf (reading file))

@@ -5,6 +5,7 @@ use Prim.Native.Nat.{ℕ}
 use mir.Syntax.{w64}
 use mir.Val.{toZ, ofZ}
 use borrow.Author.Needs.{needs}
+use Rattle.training_file.specs.Refusal.{noRefusal}
 use Rattle.reading.specs.Reading.{reading}
 use Rattle.certifying.specs.declared.certify.Thresholds.{Thresholds}
 use Rattle.certifying.specs.Certify.{certifying}
@@ -41,7 +42,7 @@ returns-2 c =
     let lower : toZ w64 (ofZ w64 (thresholds .lower)) ≡ thresholds .lower = search needs in
     let upper : toZ w64 (ofZ w64 (thresholds .upper)) ≡ thresholds .upper = search needs in
     clauses (lent .file .now) (lent .multipliers .now) (record { lower = lent .lower .now; upper = lent .upper .now })
-    ((λ k. record { number = 0; found = record { lower = lower k; upper = upper k } })
+    ((λ k. record { refusal = noRefusal; found = record { lower = lower k; upper = upper k } })
     ∙ ap (λ x. certifySeen x (record { lower = lent .lower .now; upper = lent .upper .now })) found)
 
 pub lookahead-certify-spec : {M : Type 1} → statement M

@@ -1,6 +1,7 @@
 -- `lookahead_c::classify::lookahead_classify` meets its contract: each arm has the case of the library's answer. Assumes nothing.
 use mathlib.Core.Path.{sym, _∙_, ap}
 use borrow.Author.Needs.{needs}
+use Rattle.training_file.specs.Refusal.{noRefusal}
 use Rattle.lookahead_c.specs.Classifying.{classifySeen}
 use Rattle.lookahead_c.proofs.classify.lookahead_classify.Statement.{statement}
 use Rattle.lookahead_c.proofs.classify.lookahead_classify.Tie as tie
@@ -27,7 +28,7 @@ returns-2 : tie.Need-returns-2
 returns-2 c =
     let lent = c .before .before .before .before .before .before .before .args in
     let is = sym (c .before .before .classified2 .given .1) ∙ c .before .before .before .before .classify .ensures in
-    (λ k. record { number = 0; found = c .class-number .ensures k }) ∙ ap (λ x. classifySeen x (lent .class .now)) is
+    (λ k. record { refusal = noRefusal; found = c .class-number .ensures k }) ∙ ap (λ x. classifySeen x (lent .class .now)) is
 
 pub lookahead-classify-spec : {M : Type 1} → statement M
 lookahead-classify-spec =

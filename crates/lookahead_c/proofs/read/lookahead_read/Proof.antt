@@ -2,8 +2,10 @@
 use mathlib.Core.Path.{_≡_, sym, _∙_}
 use borrow.Author.Needs.{needs}
 use Rattle.reading.specs.declared.reader.FileAnswer.{FileAnswer}
+use Rattle.training_file.specs.Refusal.{noRefusal}
 use Rattle.reading.specs.Reading.{reading}
-use Rattle.lookahead_c.specs.Reading.{ReadNumbers, ReadSeen, readFound, readNumber, readSeen}
+use Rattle.reading.specs.Calls.{fileRefusal}
+use Rattle.lookahead_c.specs.Reading.{ReadNumbers, ReadSeen, readFound, readSeen}
 use Rattle.lookahead_c.proofs.read.lookahead_read.Statement.{statement}
 use Rattle.lookahead_c.proofs.read.lookahead_read.Tie as tie
 
@@ -24,11 +26,11 @@ same-length c = search needs
 
 -- what the caller sees, by what the library's call left
 seen : (c : tie.After-read) (before : ReadNumbers) {answer : FileAnswer} → c .read .result ≡ answer
-    → _≡_ {A = ReadSeen} (record { number = readNumber answer; order = c .read .last .1 .0; found = readFound answer before })
+    → _≡_ {A = ReadSeen} (record { refusal = fileRefusal answer; order = c .read .last .1 .0; found = readFound answer before })
     (readSeen (reading (c .before .before .before .before .args .file .now)) (c .before .before .before .before .args .order .now) before)
 seen c before told =
     let is = sym told ∙ c .read .ensures .0 in
-    λ k. record { number = readNumber (is k); order = c .read .ensures .1 k; found = readFound (is k) before }
+    λ k. record { refusal = fileRefusal (is k); order = c .read .ensures .1 k; found = readFound (is k) before }
 
 returns : tie.Need-returns
 returns c =
@@ -44,7 +46,7 @@ returns-2 c =
     let read = c .before .before .before .before .before .before in
     let accepted = c .before .before .answer2 .given in
     (λ k. record {
-      number = 0;
+      refusal = noRefusal;
       order = read .read .last .1 .0;
       found = record { items = accepted .0 .1 .0; used = accepted .0 .0 .used; kernel = c .to-byte .ensures k };
     })

@@ -6,6 +6,7 @@ use lib.IntN.{ℤ}
 use mir.Syntax.{w64}
 use mir.Val.{toZ, ofZ}
 use borrow.Author.Needs.{needs}
+use Rattle.training_file.specs.Refusal.{noRefusal}
 use Rattle.reading.specs.Reading.{reading}
 use Rattle.training.specs.declared.train.Training.{Training}
 use Rattle.training.specs.Train.{trainFile}
@@ -68,7 +69,7 @@ returns-2 c =
     let before : TrainNumbers = record { ending = lent .ending .now; steps = lent .steps .now; lower = lent .lower .now; upper = lent .upper .now } in
     let told =
     (λ k. record {
-      number = 0;
+      refusal = noRefusal;
       multipliers = trained .train .last .1 .0;
       gradient = trained .train .last .1 .1 .0;
       found = record { ending = c .ending-number .ensures k; steps = result .steps; lower = lower k; upper = upper k };

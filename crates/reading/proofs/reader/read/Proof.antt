@@ -13,7 +13,8 @@ use Rattle.training_file.specs.Layout.{recordsStored}
 use Rattle.training_file.specs.Refusal.{refusal}
 use Rattle.training_file.specs.Answers.{parametersRefusal}
 use Rattle.training_file.specs.Record.{itemAt, recordAllowed}
-use Rattle.chain.specs.Chain.{chainOf, ends}
+use Rattle.chain.specs.Walk.{ends}
+use Rattle.chain.specs.Chain.{chainOf}
 use Rattle.chain.specs.Records.{every, labelled}
 use Rattle.chain.specs.Stages.{Chained, WholeFile, countIf, countRefusal, judgeAnswer, orderOf, walkAnswer}
 use Rattle.chain.specs.Stages.Laws.{if-counted, if-refused, walk-counted, walk-refused}
@@ -22,7 +23,7 @@ use Rattle.reading.specs.Header.{headerAllowed, lengthAllowed, parameter
 use Rattle.reading.specs.Reading.{bothLabels, reading}
 use Rattle.reading.specs.Calls.{fileAnswer}
 use Rattle.reading.specs.Header.Laws.{allowed-whole}
-use Rattle.reading.specs.Reading.Laws.{labels-all, labels-both, labels-none, reads-1, reads-2, reads-3, reads-4, reads-5, reads-all}
+use Rattle.reading.specs.Reading.Laws.{labels-all, labels-both, labels-none, reads-1, reads-2, reads-4, reads-5, reads-all, reads-broken}
 use Rattle.reading.specs.Header.Laws.{header-allowed, header-refused}
 use Rattle.reading.proofs.reader.read.Statement.{statement}
 use Rattle.reading.proofs.reader.read.Tie as tie
@@ -158,8 +159,8 @@ returns-3 c =
     let past = c .before .before .before .before in
     let answered = c .before .before .before .walk .ensures in
     let fails = walk-refused (chainOf (file-2 past)) _ (sym answered ∙ c .before .enum-told4 .given .1) in
-    ap Refused (c .refusal3 .ensures ∙ ap countRefusal (answered ∙ ap walkAnswer fails))
-    ∙ sym (ap fileAnswer (reads-3 (file-2 past) (sized (past .before .before .before .before)) (header past .0) fails))
+    ap Refused (c .refusal3 .ensures ∙ ap countRefusal (answered ∙ ap walkAnswer (fails .1 .1)))
+    ∙ sym (ap fileAnswer (reads-broken (file-2 past) (sized (past .before .before .before .before)) (header past .0) (fails .0) (fails .1 .0) (fails .1 .1)))
 
 judge-requires : tie.Need-judge-requires
 judge-requires c κs = chained c

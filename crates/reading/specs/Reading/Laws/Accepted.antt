@@ -22,7 +22,7 @@ use Rattle.training_file.specs.Record.{Stored, itemAt, recordAllowed}
 use Rattle.training_file.specs.Item.Laws.{features-most, features-past}
 use Rattle.training_file.specs.Record.Laws.{features-sixteen, record-features}
 use Rattle.chain.specs.Records.{every, labelled}
-use Rattle.chain.specs.Chain.Laws.{ends-length}
+use Rattle.chain.specs.Chain.Laws.{chain-ends, chain-length}
 use Rattle.chain.specs.Stages.Laws.{order-stored}
 use Rattle.reading.specs.Header.{parametersOf}
 use Rattle.reading.specs.Reading.{reading}
@@ -102,7 +102,7 @@ module _ (file : List ℕ) (p : Parameters) (rs : List ℕ) (items : List Item) 
         arith,
         items-counted,
         accepted-chained file p rs items a .file-whole .most,
-        ends-length (nextOf file) (recordsStored file) (firstRecord file) rs (a .chain-is),
+        chain-length (nextOf file) (recordsStored file) (firstRecord file) rs (chain-ends (nextOf file) (recordsStored file) (firstRecord file) rs .0 (a .chain-is)),
       )
 
   -- the features of each item

@@ -12,9 +12,10 @@ use Rattle.training_file.specs.declared.item.Item.{Item}
 use Rattle.training_file.specs.Layout.{byteAt, featureBytes, featureCount, firstRecord, le2, le4, le8, nextOf, recordStart, recordsStored}
 use Rattle.training_file.specs.Item.{itemOf, labelOfByte}
 use Rattle.training_file.specs.Record.{itemAt, recordAllowed}
-use Rattle.chain.specs.Chain.{Passes, Walk, after, broken, chain, chainOf, ends}
+use Rattle.chain.specs.Walk.{Walk, Walked, broken, ends}
+use Rattle.chain.specs.Chain.{chain, chainOf}
 use Rattle.chain.specs.Records.{every}
-use Rattle.chain.specs.Chain.Laws.{ends-after, ends-within, walk-spare}
+use Rattle.chain.specs.Chain.Laws.{chain-ends, chain-spare}
 use Rattle.reading.specs.Header.{headerAllowed, lengthAllowed, parametersOf}
 use Rattle.reading.specs.Reading.{Reading, accepted, bothLabels, readChain, reading, unless}
 
@@ -24,15 +25,18 @@ use Rattle.reading.specs.Reading.{Reading, accepted, bothLabels, readCha
 abbrev pub Alike : (f g : List ℕ) (start size : ℕ) → Type 0
 Alike f g start size = (at : ℕ) → start ≤ at → at < start + size → byteAt f at ≡ byteAt g at
 
--- the record is on the chain of a file, ended or broken: k steps from the first record lead to it, over records of 1 to m alone
-pub record OnChain (file : List ℕ) (r k : ℕ) : Type 0 where
-  pub reached : r ≡ after (nextOf file) k (firstRecord file)
-  pub passes : Passes (nextOf file) (recordsStored file) (suc k) (firstRecord file)
+-- the record is on the chain of a file, ended or broken: a walk meets it
+pub record OnChain (file : List ℕ) (r : ℕ) : Type 0 where
+  pub met : List ℕ
+  pub walked : Walked (nextOf file) (recordsStored file) (firstRecord file) met
+  pub place : ℕ
+  pub held : place < length met
+  pub is : getD met place 0 ≡ r
 
 pub record SameChained (f g : List ℕ) : Type 0 where
   pub lengths : length f ≡ length g
   pub header : Alike f g 0 32
-  pub records : (r k : ℕ) → OnChain f r k → Alike f g (recordStart r) 20
+  pub records : (r : ℕ) → OnChain f r → Alike f g (recordStart r) 20
 
 -- ---- the fields
 
@@ -123,23 +127,18 @@ module _ (f g : List ℕ) (a : SameChained f g) where
 
   chain-same : chainOf f ≡ chainOf g
   chain-same =
-      walk-spare (nextOf f) (nextOf g) (recordsStored f) (recordsStored f) (firstRecord f)
-      (λ j passes. le2-alike f g _ (part f g _ 20 _ 2 (omega arith) (omega arith) (a .records _ j (record { reached = refl; passes = passes }))))
+      chain-spare (nextOf f) (nextOf g) (recordsStored f) (firstRecord f)
+      (λ met w k h. le2-alike f g _ (part f g _ 20 _ 2 (omega arith) (omega arith) (a .records _ (record { met = met; walked = w; place = k; held = h; is = refl }))))
       ∙ ap₂ (λ (m first : ℕ). chain (nextOf g) m first) (field2 0 (omega arith)) (field2 2 (omega arith))
 
   -- of the records that the chain ends with
   module _ (rs : List ℕ) (e : chainOf f ≡ ends rs) where
-    on-chain : (k : ℕ) → k < length rs → OnChain f (getD rs k 0) k
+    on-chain : (k : ℕ) → k < length rs → OnChain f (getD rs k 0)
     on-chain k h =
-        record {
-          reached = ends-after (nextOf f) (recordsStored f) (firstRecord f) rs e k (omega arith);
-          passes = λ j b.
-              rw (sym (ends-after (nextOf f) (recordsStored f) (firstRecord f) rs e j (omega arith)))
-              (ends-within (nextOf f) (recordsStored f) (firstRecord f) rs e j (omega arith));
-        }
+        record { met = rs; walked = chain-ends (nextOf f) (recordsStored f) (firstRecord f) rs .0 e .walked; place = k; held = h; is = refl }
 
     record-same : (k : ℕ) → k < length rs → Alike f g (recordStart (getD rs k 0)) 20
-    record-same k h = a .records (getD rs k 0) k (on-chain k h)
+    record-same k h = a .records (getD rs k 0) (on-chain k h)
 
     allowed-same : (d k : ℕ) → k < length rs → recordAllowed d f (getD rs k 0) ≡ recordAllowed d g (getD rs k 0)
     unfolding recordAllowed
@@ -167,7 +166,7 @@ module _ (f g : List ℕ) (a : SameChained f g) where
     rest-same = λ k. unless 4 (all-same k) (unless 5 (bothLabels (items-same k)) (accepted (parameters-same k) rs (items-same k)))
 
   walked-same : (w : Walk) → chainOf f ≡ w → readChain f w ≡ readChain g w
-  walked-same broken e = refl
+  walked-same (broken number r) e = refl
   walked-same (ends rs) e = rest-same rs e
 
   pub spare-records : reading f ≡ reading g

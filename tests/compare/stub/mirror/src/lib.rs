@@ -1,9 +1,25 @@
 //! The reference itself behind the C interface: a comparison with it can find no
 //! difference, and shows that a Rust static library can be linked.
 
+#[path = "../../../../../include/lookahead.rs"]
+mod declared;
+
+use declared::LookaheadAnswer;
 use reference::kernel::Kernel;
-use reference::{Class, Ending};
+use reference::{Class, Ending, Refusal};
 use std::slice;
+
+const ACCEPTED: LookaheadAnswer = LookaheadAnswer {
+    number: 0,
+    record: 0,
+};
+
+fn refused(refusal: Refusal) -> LookaheadAnswer {
+    LookaheadAnswer {
+        number: refusal.number,
+        record: refusal.record.unwrap_or(0),
+    }
+}
 
 /// # Safety
 /// The pointers are to lists of the lengths given, or to single places.
@@ -16,11 +32,11 @@ pub unsafe extern "C" fn lookahead_read(
     items: *mut usize,
     used: *mut usize,
     kernel: *mut u8,
-) -> u8 {
+) -> LookaheadAnswer {
     let file = slice::from_raw_parts(file, file_len);
     let order = slice::from_raw_parts_mut(order, order_len);
     match reference::contents(file, order) {
-        Err(number) => number,
+        Err(refusal) => refused(refusal),
         Ok(contents) => {
             *items = contents.items;
             *used = contents.features;
@@ -28,7 +44,7 @@ pub unsafe extern "C" fn lookahead_read(
                 Kernel::Linear => 0,
                 Kernel::Square => 1,
             };
-            0
+            ACCEPTED
         }
     }
 }
@@ -47,12 +63,12 @@ pub unsafe extern "C" fn lookahead_train(
     steps: *mut u32,
     lower: *mut i64,
     upper: *mut i64,
-) -> u8 {
+) -> LookaheadAnswer {
     let file = slice::from_raw_parts(file, file_len);
     let multipliers = slice::from_raw_parts_mut(multipliers, multipliers_len);
     let gradient = slice::from_raw_parts_mut(gradient, gradient_len);
     let trained = match reference::train(file, multipliers, gradient) {
-        Err(number) => return number,
+        Err(refusal) => return refused(refusal),
         Ok(trained) => trained,
     };
     *ending = match trained.ending {
@@ -63,7 +79,7 @@ pub unsafe extern "C" fn lookahead_train(
     *steps = trained.steps;
     *lower = trained.lower;
     *upper = trained.upper;
-    0
+    ACCEPTED
 }
 
 /// # Safety
@@ -76,15 +92,15 @@ pub unsafe extern "C" fn lookahead_certify(
     multipliers_len: usize,
     lower: *mut i64,
     upper: *mut i64,
-) -> u8 {
+) -> LookaheadAnswer {
     let file = slice::from_raw_parts(file, file_len);
     let multipliers = slice::from_raw_parts(multipliers, multipliers_len);
     match reference::certify(file, multipliers) {
-        Err(number) => number,
+        Err(refusal) => refused(refusal),
         Ok((b_low, b_up)) => {
             *lower = b_low;
             *upper = b_up;
-            0
+            ACCEPTED
         }
     }
 }
@@ -100,19 +116,19 @@ pub unsafe extern "C" fn lookahead_classify(
     word: *const i8,
     word_len: usize,
     class: *mut u8,
-) -> u8 {
+) -> LookaheadAnswer {
     let file = slice::from_raw_parts(file, file_len);
     let multipliers = slice::from_raw_parts(multipliers, multipliers_len);
     let word = slice::from_raw_parts(word, word_len);
     match reference::classify(file, multipliers, word) {
-        Err(number) => number,
+        Err(refusal) => refused(refusal),
         Ok(answer) => {
             *class = match answer {
                 Class::LookedUp => 1,
                 Class::PassedOver => 2,
                 Class::Undecided => 3,
             };
-            0
+            ACCEPTED
         }
     }
 }
