@@ -6,6 +6,7 @@ use mathlib.Core.Logic.{_⊎_}
 use mathlib.Core.Option.{Option, none, some}
 use mathlib.Core.List.{List, []}
 use Prim.Native.Nat.{ℕ, suc, _≤_, _<_}
+use native.Mathlib.Omega.{arith}
 use lib.ListN.{length, getD}
 use Rattle.training_file.specs.Layout.{firstRecord, nextOf, recordsStored}
 use Rattle.chain.specs.Walk.{Walk, Walked, walk}
@@ -16,10 +17,10 @@ abbrev pub cameTo : (found : Option Walk) → ¬ (found ≡ none) → Walk
 cameTo (some w) stops = w
 cameTo none stops = absurd (stops refl)
 
--- "The n items are the chained records in chain order": what the walk from the first record comes to. A walk meets at most m records
--- (`walk-stops`), so it goes on for at most m turns and comes to this in the next.
+-- "The n items are the chained records in chain order": what the walk from the first record comes to. A walk meets at most m records, so it
+-- goes on for at most m turns and comes to this in the next (`walk-stops`).
 abbrev pub chain : (next : ℕ → ℕ) (m first : ℕ) → Walk
-chain next m first = cameTo (walk next m first (suc m) []) (walk-stops next m first)
+chain next m first = cameTo (walk next m first (suc m) []) (walk-stops next m first (suc m) (omega arith))
 
 -- the chain of the file, walked over the next numbers of its records
 abbrev pub chainOf : List ℕ → Walk

@@ -1,6 +1,7 @@
 //! The calls made for one file, each answered by the library and the reference.
 
-use crate::expected::{self, ACCEPTED, UNDECIDED};
+use crate::answer::ACCEPTED;
+use crate::expected::{self, UNDECIDED};
 use crate::library::{self, CertifyAnswer, ClassifyAnswer, ReadAnswer, TrainAnswer};
 use crate::report::{Difference, Tally};
 use reference::file::{read, Problem, MOST_RECORDS};

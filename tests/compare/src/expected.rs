@@ -1,23 +1,10 @@
 //! What the reference expects to be seen after a call: its answer where it
 //! gives one, and what stood there before where it refuses.
 
-use crate::library::{CertifyAnswer, ClassifyAnswer, LookaheadAnswer, ReadAnswer, TrainAnswer};
+use crate::answer::{refused, ACCEPTED};
+use crate::library::{CertifyAnswer, ClassifyAnswer, ReadAnswer, TrainAnswer};
 use reference::kernel::Kernel;
-use reference::{Class, Ending, Refusal};
-
-/// The answer of a call that refuses nothing.
-pub const ACCEPTED: LookaheadAnswer = LookaheadAnswer {
-    number: 0,
-    record: 0,
-};
-
-/// "record: ... otherwise 0" of the C interface.
-fn refused(refusal: Refusal) -> LookaheadAnswer {
-    LookaheadAnswer {
-        number: refusal.number,
-        record: refusal.record.unwrap_or(0),
-    }
-}
+use reference::{Class, Ending};
 
 /// "kernel: 0 linear, 1 square" of document 01's header.
 fn kernel_number(kernel: Kernel) -> u8 {

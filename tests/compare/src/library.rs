@@ -4,11 +4,10 @@
 //! again as they were; the file, the multipliers and the word that a call may
 //! only read are looked at afterwards too.
 
-#[path = "../../../include/lookahead.rs"]
-mod declared;
-
-pub use declared::LookaheadAnswer;
-use declared::{lookahead_certify, lookahead_classify, lookahead_read, lookahead_train};
+use crate::answer::declared::{
+    lookahead_certify, lookahead_classify, lookahead_read, lookahead_train,
+};
+use crate::answer::LookaheadAnswer;
 use reference::generate::Random;
 
 /// Places kept on either side of what is lent.

@@ -4,6 +4,7 @@
 //! files, or files until the time is over, or one file by its number. The exit
 //! status is 1 if a difference was found.
 
+mod answer;
 mod calls;
 mod expected;
 mod flags;

@@ -26,10 +26,10 @@ module _ (next : ℕ → ℕ) (m first : ℕ) where
   -- ---- the chain is what the walk comes to, where it stops
 
   pub chain-stops : Stops next m first (chain next m first)
-  chain-stops = walk-found next m first (chain next m first) (was-found (walk next m first (suc m) []) (walk-stops next m first))
+  chain-stops = walk-found next m first (chain next m first) (was-found (walk next m first (suc m) []) (walk-stops next m first (suc m) (omega arith)))
 
   pub stops-chain : (w : Walk) → Stops next m first w → chain next m first ≡ w
-  stops-chain w s = came-to (walk next m first (suc m) []) (walk-stops next m first) w (stops-found next m first w s)
+  stops-chain w s = came-to (walk next m first (suc m) []) (walk-stops next m first (suc m) (omega arith)) w (stops-found next m first w s)
 
   chain-stops-at : (w : Walk) → chain next m first ≡ w → Stops next m first w
   chain-stops-at w e = subst (Stops next m first) e chain-stops

@@ -304,9 +304,10 @@ module _ (next : ℕ → ℕ) (m first : ℕ) where
           let found = below (met ++ (r ∷ [])) (walked-more met r w refl l q e) (omega (arith, length-append met (r ∷ []))) in
           (found .0, ap (λ y. turn y met (λ more. walk next m first turns more)) (stands-new m met r l q e) ∙ found .1, found .2)
 
-  pub walk-stops : ¬ (walk next m first (suc m) [] ≡ none)
-  walk-stops e =
-      let found = come-to (suc m) [] walked-none (omega arith) in
+  -- so more turns than m suffice
+  pub walk-stops : (turns : ℕ) → m < turns → ¬ (walk next m first turns [] ≡ none)
+  walk-stops turns h e =
+      let found = come-to turns [] walked-none (omega arith) in
       let q : none ≡ some (found .0) = sym e ∙ found .1 in
       let z : _≡_ {A = ℕ} 0 1 = cc in
       omega arith

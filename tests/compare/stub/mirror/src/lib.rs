@@ -1,25 +1,13 @@
 //! The reference itself behind the C interface: a comparison with it can find no
 //! difference, and shows that a Rust static library can be linked.
 
-#[path = "../../../../../include/lookahead.rs"]
-mod declared;
+#[path = "../../../src/answer.rs"]
+mod answer;
 
-use declared::LookaheadAnswer;
+use answer::{refused, LookaheadAnswer, ACCEPTED};
 use reference::kernel::Kernel;
-use reference::{Class, Ending, Refusal};
+use reference::{Class, Ending};
 use std::slice;
-
-const ACCEPTED: LookaheadAnswer = LookaheadAnswer {
-    number: 0,
-    record: 0,
-};
-
-fn refused(refusal: Refusal) -> LookaheadAnswer {
-    LookaheadAnswer {
-        number: refusal.number,
-        record: refusal.record.unwrap_or(0),
-    }
-}
 
 /// # Safety
 /// The pointers are to lists of the lengths given, or to single places.
