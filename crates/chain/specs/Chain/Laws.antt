@@ -10,9 +10,9 @@ use native.Mathlib.Nat.{eq-or-lt-of-le}
 use native.Mathlib.Omega.{arith}
 use lib.Dec.{eqb}
 use lib.ListN.{length, getD, List·getD-eq-default}
-use Rattle.chain.specs.Walk.{Walk, Walked, broken, ends, lastOf, ledTo, member, standing, standingAt, turn, walk}
+use Rattle.chain.specs.Walk.{Walk, Walked, atFault, broken, ended, ends, lastOf, ledTo, member, standing, standingAt, turn, walk}
 use Rattle.chain.specs.Chain.{IsChain, IsFault, cameTo, chain}
-use Rattle.chain.specs.Walk.Laws.{Stops, is-member, last-at, led-at, member-true, stands-again, stands-ended, stands-over, stood-at-fault, stood-ended, stops-found, turn-broken, turn-ends, walk-found, walk-stops, walked-most}
+use Rattle.chain.specs.Walk.Laws.{Stops, is-member, last-at, led-at, member-true, stands-again, stands-ended, stands-over, stood-at-fault, stood-ended, stops-at, stops-found, turn-broken, turn-ends, walk-found, walk-stops, walked-most}
 
 came-to : (found : Option Walk) (stops : ¬ (found ≡ none)) (w : Walk) → found ≡ some w → cameTo found stops ≡ w
 came-to (some x) stops w e = cc
@@ -72,8 +72,7 @@ module _ (next : ℕ → ℕ) (m first : ℕ) where
 
   pub chain-complete : (rs : List ℕ) → IsChain next m first rs → chain next m first ≡ ends rs
   chain-complete rs c =
-      stops-chain (ends rs)
-      (record { met = rs; walked = c .walked; there = ap (λ y. turn y rs (λ more. none)) (stands-ended m rs (ledTo next first rs) (chain-led rs c)) })
+      stops-chain (ends rs) (stops-at next m first rs ended (ends rs) (c .walked) (stands-ended m rs (ledTo next first rs) (chain-led rs c)) refl)
 
   -- the walk ends with rs exactly when rs is the chain
   pub chain-ends : (rs : List ℕ) → (chain next m first ≡ ends rs) ↔ IsChain next m first rs
@@ -114,12 +113,9 @@ module _ (next : ℕ → ℕ) (m first : ℕ) where
 
       for-3 : (number ≡ 3) × (m < next r) → Stops next m first (broken number r)
       for-3 p =
-          record {
-            met = f .met;
-            walked = f .walked;
-            there = ap (λ y. turn y (f .met) (λ more. none)) (stands-over m (f .met) (ledTo next first (f .met)) (rw led-is (p .1)))
-                ∙ (λ i. some (broken (sym (p .0) i) (last-is i)));
-          }
+          stops-at next m first (f .met) (atFault 3) (broken number r) (f .walked)
+          (stands-over m (f .met) (ledTo next first (f .met)) (rw led-is (p .1)))
+          (λ i. some (broken (sym (p .0) i) (last-is i)))
 
       for-16 : (number ≡ 16) × ((k : ℕ) × (k ≤ f .place) × (getD (f .met) k 0 ≡ next r)) → Stops next m first (broken number r)
       for-16 p =
@@ -127,14 +123,10 @@ module _ (next : ℕ → ℕ) (m first : ℕ) where
           let held : k < length (f .met) = omega (arith, p .1 .1, f .last) in
           let to = p .1 .2 ∙ sym led-is in
           let in-range = f .walked .within k held in
-          record {
-            met = f .met;
-            walked = f .walked;
-            there = ap (λ y. turn y (f .met) (λ more. none))
-                (stands-again m (f .met) (ledTo next first (f .met)) (omega (arith, to, in-range .0)) (omega (arith, to, in-range .1))
-                (is-member (ledTo next first (f .met)) (f .met) k held to))
-                ∙ (λ i. some (broken (sym (p .0) i) (last-is i)));
-          }
+          stops-at next m first (f .met) (atFault 16) (broken number r) (f .walked)
+          (stands-again m (f .met) (ledTo next first (f .met)) (omega (arith, to, in-range .0)) (omega (arith, to, in-range .1))
+          (is-member (ledTo next first (f .met)) (f .met) k held to))
+          (λ i. some (broken (sym (p .0) i) (last-is i)))
 
   -- the chain breaks at r with a number exactly when the next field of r is so at fault, the first on the walk
   pub chain-broken : (number r : ℕ) → first ≤ m → (chain next m first ≡ broken number r) ↔ IsFault next m first number r
@@ -198,7 +190,7 @@ tail-into-a-cycle : chain (λ r. getD (0 ∷ 3 ∷ 4 ∷ 4 ∷ 1 ∷ []) r 0) 4 
 unfolding walk
 tail-into-a-cycle = refl
 
--- 1, 2 and a next number of m, which is a record's, then one of m + 1
+-- 1, 2 and, by a next number of exactly m, record 3, whose own next number is m + 1
 next-over : chain (λ r. getD (0 ∷ 2 ∷ 3 ∷ 4 ∷ []) r 0) 3 1 ≡ broken 3 3
 unfolding walk
 next-over = refl

@@ -26,7 +26,7 @@ use Rattle.chain.specs.Walk.{Standing, Walk, Walked, atFault, broken, en
 use Rattle.chain.specs.Chain.{ChainIn, chainOf}
 use Rattle.chain.specs.Records.{every, labelled}
 use Rattle.chain.specs.Stages.{Chained, WholeFile, countIf, judgeAnswer, orderOf, recordsOf, stepAt, stepNext, tableWith, walkAnswer}
-use Rattle.chain.specs.Walk.Laws.{last-at, last-snoc, led-snoc, member-last, member-other, stands-again, stands-ended, stands-over, walked-more, walked-most, walked-none}
+use Rattle.chain.specs.Walk.Laws.{last-at, last-snoc, led-snoc, member-last, member-other, stands-again, stands-ended, stands-over, stops-at, walked-more, walked-most, walked-none}
 use Rattle.chain.specs.Chain.Laws.{chain-ends, stops-chain}
 
 -- ---- what an answer says
@@ -106,11 +106,8 @@ module _ (file marks : List ℕ) (last number met : ℕ) (p : Passed file marks 
       → chainOf file ≡ w
   passed-stops s w e t =
       stops-chain (nextOf file) (recordsStored file) (firstRecord file) w
-      (record {
-        met = p .records;
-        walked = p .walked;
-        there = ap (λ y. turn y (p .records) (λ more. none)) (ap (standingAt (recordsStored file) (p .records)) (sym (p .at)) ∙ e) ∙ t;
-      })
+      (stops-at (nextOf file) (recordsStored file) (firstRecord file) (p .records) s w (p .walked)
+      (ap (standingAt (recordsStored file) (p .records)) (sym (p .at)) ∙ e) t)
 
   passed-broken : (refused : ℕ) → standingAt (recordsStored file) (p .records) number ≡ atFault refused → walkAnswer (chainOf file) ≡ Refused (refusalAt refused last)
   passed-broken refused e =
@@ -139,7 +136,7 @@ module _ (file marks : List ℕ) (last number met : ℕ) (p : Passed file marks 
   step-next n e =
       let past = chose-second (eqb number 0) (λ q. let z : _≡_ {A = ℕ} 0 1 = cc in omega arith) e in
       let on = chose-first (leb number (recordsStored file)) (λ q. let z : _≡_ {A = ℕ} 0 1 = cc in omega arith) (past .1) in
-      let some = eqb-false number 0 (past .0) in
+      let not-zero = eqb-false number 0 (past .0) in
       (omega arith, leb-true number (recordsStored file) (on .0), let same = on .1 in cc)
 
   -- of a record, which has its mark exactly where it was met before

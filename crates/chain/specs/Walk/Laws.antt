@@ -280,6 +280,11 @@ module _ (next : ℕ → ℕ) (m first : ℕ) where
     pub walked : Walked next m first met
     pub there : turn (standing next m first met) met (λ more. none) ≡ some w
 
+  -- by how the walk stands there
+  pub stops-at : (met : List ℕ) (s : Standing) (w : Walk) → Walked next m first met → standing next m first met ≡ s
+      → turn s met (λ more. none) ≡ some w → Stops w
+  stops-at met s w walked e t = record { met = met; walked = walked; there = ap (λ y. turn y met (λ more. none)) e ∙ t }
+
   -- within turns over those that are left of m it comes to something
   come-to : (turns : ℕ) (met : List ℕ) → Walked next m first met → m < turns + length met
       → (w : Walk) × (walk next m first turns met ≡ some w) × Stops w
@@ -291,7 +296,7 @@ module _ (next : ℕ → ℕ) (m first : ℕ) where
       here : (s : Standing) (x : Walk) → standing next m first met ≡ s → ((go : List ℕ → Option Walk) → turn s met go ≡ some x)
           → (w : Walk) × (walk next m first (suc turns) met ≡ some w) × Stops w
       here s x e t =
-          (x, ap (λ y. turn y met (λ more. walk next m first turns more)) e ∙ t _, record { met = met; walked = w; there = ap (λ y. turn y met (λ more. none)) e ∙ t _ })
+          (x, ap (λ y. turn y met (λ more. walk next m first turns more)) e ∙ t _, stops-at met s x w e (t _))
 
       by : Place m met (ledTo next first met)
           → ((more : List ℕ) → Walked next m first more → m < turns + length more → (w : Walk) × (walk next m first turns more ≡ some w) × Stops w)
