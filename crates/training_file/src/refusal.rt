@@ -8,7 +8,7 @@ ghost use Rattle.training_file.specs.Refusal.{refusalAt};
 #[repr(C)]
 pub struct Refusal {
     pub number: u8,
-    // 0 where the refusal carries no record: records are numbered from 1.
+    // The record at fault; 0 where the refusal carries none, since records are numbered from 1.
     pub at: u16,
 }
 
