@@ -1,6 +1,5 @@
 -- Document 01, "Settled examples": P1 to P12 as one table of inputs and results, and one theorem, by the definitions that the
--- contracts of the public calls cite. E1 to E3 and K1 to K4 are our own, for requests (e) and (k) of document 02. Assumes
--- nothing.
+-- contracts of the public calls cite. E1 to E3 and K1 to K4 are our own, for requests (e) and (k) of document 02. Assumes nothing.
 use mathlib.Core.Path.{_≡_, refl}
 use mathlib.Core.Bool.{Bool, false}
 use mathlib.Core.List.{List, [], _∷_, _++_}

@@ -31,7 +31,7 @@ pub record CertifySeen : Type 0 where
 abbrev pub certifySeen : Certified → Thresholds → CertifySeen
 certifySeen answer before = record { refusal = certifyRefusal answer; found = certifyFound answer before }
 
--- Demand 3, of the multipliers handed in and of what the caller sees after a refusal of number 0
+-- Demand 3, of the multipliers handed in and of what the caller sees after an answer of number 0
 abbrev pub AnsweredDistance : Parameters → List Item → List ℕ → ℕ → Thresholds → Type 0
 AnsweredDistance p items a zero found = BoundedDistance (problem p items) (p .ceiling) (found .lower) (found .upper) (at a)
 AnsweredDistance p items a (suc number) found = Unit {0}

@@ -50,7 +50,7 @@ trainSeen left before =
       found = trainFound (left .answer) before;
     }
 
--- the quality of a training that was answered, by the number of the refusal answered
+-- the quality of a training that was answered, by the number answered
 abbrev pub AnsweredQuality : Parameters → List Item → ℕ → TrainNumbers → List ℕ → Type 0
 AnsweredQuality p items zero found left =
     (ending : Ending)
@@ -58,7 +58,7 @@ AnsweredQuality p items zero found left =
     × ResultQuality p (problem p items) (record { ending = ending; steps = found .steps; lower = found .lower; upper = found .upper }) (take (length items) left)
 AnsweredQuality p items (suc number) found left = Unit {0}
 
--- Demand 3, of what the caller sees after a refusal of number 0: the numbers written, and the multipliers in the first n places
+-- Demand 3, of what the caller sees after an answer of number 0: the numbers written, and the multipliers in the first n places
 abbrev pub SeenQuality : Reading → TrainSeen → Type 0
 SeenQuality (refused why) seen = Unit {0}
 SeenQuality (accepted p order items) seen = AnsweredQuality p items (seen .refusal .number) (seen .found) (seen .multipliers)

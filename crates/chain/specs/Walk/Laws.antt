@@ -220,7 +220,7 @@ module _ (next : ℕ → ℕ) (m first : ℕ) where
         distinct = λ j k l h. absurd (omega arith);
       }
 
-  -- "that a walk meets at most m records"
+  -- a walk meets at most m records
   pub walked-most : (met : List ℕ) → Walked next m first met → length met ≤ m
   walked-most met w = pigeonhole (length met) m (λ k. getD met k 0) (w .within) (w .distinct)
 
