@@ -49,7 +49,8 @@ typedef struct {
  *
  * LENGTH     under 32 bytes, more than 256 records, or a length that is not
  *            32 + 20 for each record
- * HEADER     a header field beyond its range, or a spare byte that is not 0
+ * HEADER     a header field beyond its range, or a spare byte, 6 or 7, that is
+ *            not 0
  * NEXT_OVER  a next number over the number of records stored
  * NEXT_MET   a next number that leads to a record already met, which may be
  *            the record itself
@@ -69,7 +70,7 @@ typedef struct {
  * COUNT    training: a lent list shorter than n; certifying and classifying:
  *          multipliers not exactly n in number; classifying: a word that has
  *          not exactly as many features as the file has in use
- * CEILING  a multiplier over the file's ceiling
+ * CEILING  a multiplier over its item's ceiling
  * BALANCE  the multipliers of items looked up and of items passed over have
  *          different sums
  * FEATURE  a feature of the word outside -127 to 127 */
@@ -169,16 +170,24 @@ lookahead_answer lookahead_train(const uint8_t *file, size_t file_len,
 
 /* Works out both thresholds of multipliers, wherever they come from. From the
  * thresholds follows how far the multipliers can be from the best ones: with g
- * the difference lower - upper, or 0 if that is negative, and c the file's
- * ceiling, no multipliers that this call accepts have an objective that is
- * lower by more than 2 * g * c * (n / 2), n / 2 rounded down. The same holds
- * of the multipliers and thresholds that training leaves, and in both cases
- * also against multipliers of every finer grid, that is with fractions of a
- * grid unit, their objective taken likewise.
+ * the difference lower - upper, or 0 if that is negative, and k the sum of the
+ * n items' ceilings, no multipliers that this call accepts have an objective
+ * that is lower by more than g * k. The same holds of the multipliers and
+ * thresholds that training leaves, and in both cases also against multipliers
+ * of every finer grid, that is with fractions of a grid unit, their objective
+ * taken likewise.
  *
- * That bound can pass 64 bits, although g and k = 2 * c * (n / 2) do not: k is
- * at most 2^24. It is k * (g >> 32) times 2^32, plus k * (g & 0xffffffff), and
- * neither product passes 64 bits.
+ * The ceiling of an item looked up is c, bytes 12 to 15 of the file; that of an
+ * item passed over is the second ceiling, bytes 28 to 31, or c where those are
+ * 0. Both have their low byte first. An item's label is byte 2 of its record:
+ * with r the record's number, which lookahead_read puts into order, byte
+ * 32 + 20 * (r - 1) + 2 of the file, 1 looked up and 2 passed over. Where both
+ * labels' ceilings are equal to c, k may be taken as 2 * c * (n / 2), n / 2
+ * rounded down, which for an odd n is smaller by c.
+ *
+ * That bound can pass 64 bits, although g and k do not: k is at most 2^24. It
+ * is k * (g >> 32) times 2^32, plus k * (g & 0xffffffff), and neither product
+ * passes 64 bits.
  *
  * Handed over: exactly n multipliers, in the chain's order; so of a longer
  * list that was trained into, the first n places.

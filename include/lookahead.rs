@@ -1,6 +1,6 @@
 //! The library's calls and what they answer, declared for Rust. `lookahead.h`
 //! beside this file explains them: lists, refusals with the record to open,
-//! kernels, endings and classes.
+//! kernels, endings and classes, and how far multipliers can be from the best.
 #![allow(dead_code)]
 
 pub const LOOKAHEAD_MOST_ITEMS: usize = 256;

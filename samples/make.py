@@ -62,6 +62,19 @@ def words(random, count, margin, noise):
     return items
 
 
+def rarely_looked_up(random, looked_up, passed_over, noise):
+    """So many words of each label, in the order met; words of a label that has
+    enough already are left out."""
+    left = {1: looked_up, 2: passed_over}
+    items = []
+    while any(left.values()):
+        [(label, features)] = words(random, 1, 0, noise)
+        if left[label]:
+            left[label] -= 1
+            items.append((label, features))
+    return items
+
+
 def coarser(items):
     """The same words on a coarser scale, which keeps the square kernel small."""
     return [(label, [feature // 5 for feature in features]) for label, features in items]
@@ -73,6 +86,7 @@ def finer(items):
 
 
 def header(records, first, features, kernel, units, ceiling, tolerance, budget):
+    """With one ceiling for both labels: the second one is 0."""
     return struct.pack("<HHBBHIIQII", records, first, features, kernel, 0, units, ceiling, tolerance, budget, 0)
 
 
@@ -103,6 +117,11 @@ def damaged(file):
     return file[:start] + first.to_bytes(2, "little") + file[start + 2 :]
 
 
+def with_second_ceiling(file, ceiling):
+    """The same log with another ceiling for the words passed over."""
+    return file[:28] + struct.pack("<I", ceiling) + file[32:]
+
+
 def example():
     """The three-record example of document 01."""
     records = [record(0, 2, [-1]), b"\xee" * 20, record(1, 1, [1])]
@@ -117,6 +136,7 @@ def samples():
     stuck = log(random, words(random, 60, 5, 20), 12, 0, 20_000, 64, 0, 50_000)
     spent = log(random, words(random, 90, 0, 60), 20, 0, UNITS, 2_000, UNITS // 1000, 40)
     fine = log(random, finer(words(random, 60, 10, 10)), 10, 0, UNITS, 1_000, UNITS // 20, 5_000)
+    rare = log(random, rarely_looked_up(random, 10, 200, 50), 20, 0, UNITS, 4_000, UNITS // 20, 20_000)
     return {
         "example": example(),
         "clean": clean,
@@ -127,6 +147,8 @@ def samples():
         "fine": fine,
         "damaged": damaged(noisy),
         "cut": clean[:700],
+        "rare": rare,
+        "ceilings": with_second_ceiling(rare, 200),
     }
 
 

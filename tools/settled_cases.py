@@ -1,7 +1,7 @@
 """Writes document 01's settled examples P1 to P12 for crates/settled_test: what it is run on, and the results settled there, of P12's
-second half those of document 02, (e). E1 to E3 are our own examples of that request, and K1 to K4 of request (k). Three words follow that
-document 01 has run only: W1 to W3, with the highest feature, the lowest, and one below it. A refusal is its number and its record, 0 where
-it carries none.
+second half those of document 02, (e). E1 to E3 are our own examples of that request, K1 to K4 of request (k), and F1 to F6 of request (f).
+Three words follow that document 01 has run only: W1 to W3, with the highest feature, the lowest, and one below it. A refusal is its number
+and its record, 0 where it carries none.
 
 Nothing is worked out here. What the document leaves out of a result, as the thresholds of P4, is as the theorem `settled` has it
 (crates/lookahead/specs/Settled.antt).
@@ -16,10 +16,11 @@ import struct
 TRAIN, CERTIFY, CLASSIFY = 0, 1, 2
 
 
-def file(items, follows=None, kernel=0, S=10, c=100, t=0, budget=50):
-    """d 1, and the items by label and feature, chained in that order, or by the next numbers given."""
+def file(items, follows=None, kernel=0, S=10, c=100, t=0, budget=50, second=0):
+    """d 1, and the items by label and feature, chained in that order, or by the next numbers given. The second ceiling is that of items
+    passed over, 0 for the same as c."""
     follows = follows or [*range(2, len(items) + 1), 0]
-    data = struct.pack("<HHBBHIIQII", len(items), 1, 1, kernel, 0, S, c, t, budget, 0)
+    data = struct.pack("<HHBBHIIQII", len(items), 1, 1, kernel, 0, S, c, t, budget, second)
     for (label, feature), number in zip(items, follows):
         data += struct.pack("<HBBb15x", number, label, 0, feature)
     return data
@@ -34,6 +35,9 @@ BOTH_ONE = file([(1, 1), (2, 1)], c=7)
 THREE = file([(1, 10), (2, -10), (2, 10)], S=1, c=2)
 UNEVEN = file([(1, 1), (2, 0)], S=1, c=10)
 TAIL_INTO_CYCLE = file([(9, 10), (2, -10), (2, 10)], follows=[2, 3, 2], S=1, c=2)
+SECOND_BELOW = plus_minus(second=3)
+SECOND_ABOVE = plus_minus(c=3, second=100)
+TWO_PASSED_OVER = file([(1, 1), (2, -1), (2, -1)], second=2)
 
 # Name, kind, file, multipliers, feature; the result. Training is lent 9s, so that what it leaves alone shows.
 CASES = [
@@ -58,6 +62,13 @@ CASES = [
     ("K2", TRAIN, plus_minus(follows=[1, 0]), (9, 9, 9), 0, "refused 16 1, multipliers 9 9 9"),
     ("K3", TRAIN, plus_minus(follows=[2, 3]), (9, 9, 9), 0, "refused 3 2, multipliers 9 9 9"),
     ("K4", TRAIN, TAIL_INTO_CYCLE, (9, 9, 9), 0, "refused 16 3, multipliers 9 9 9"),
+    ("F1", TRAIN, SECOND_BELOW, (9, 9, 9), 0, "converged 1, thresholds -4 -4, multipliers 3 3 9"),
+    ("F2", TRAIN, SECOND_ABOVE, (9, 9, 9), 0, "converged 1, thresholds 4 4, multipliers 3 3 9"),
+    ("F3", TRAIN, plus_minus(second=100), (9, 9, 9), 0, "converged 1, thresholds 0 0, multipliers 5 5 9"),
+    ("F4", TRAIN, plus_minus(second=65537), (9, 9, 9), 0, "refused 2 0, multipliers 9 9 9"),
+    ("F5", CERTIFY, SECOND_BELOW, (4, 4, 0), 0, "refused 7 0"),
+    ("F5", CERTIFY, SECOND_ABOVE, (4, 4, 0), 0, "refused 7 0"),
+    ("F6", TRAIN, TWO_PASSED_OVER, (9, 9, 9), 0, "converged 2, thresholds -2 -2, multipliers 4 2 2"),
     ("W1", CLASSIFY, plus_minus(), (5, 5, 0), 127, "looked up"),
     ("W2", CLASSIFY, plus_minus(), (5, 5, 0), -127, "passed over"),
     ("W3", CLASSIFY, plus_minus(), (5, 5, 0), -128, "refused 9 0"),

@@ -15,7 +15,7 @@ import struct
 LOWEST, HIGHEST = -127, 127
 
 # Where the fields are in a file, and in a record.
-M, FIRST, D, KERNEL, SPARE, S, C, T, BUDGET, SPARE_END = 0, 2, 4, 5, 6, 8, 12, 16, 24, 28
+M, FIRST, D, KERNEL, SPARE, S, C, T, BUDGET, SECOND = 0, 2, 4, 5, 6, 8, 12, 16, 24, 28
 NEXT, LABEL, ZERO, FEATURE = 0, 2, 3, 4
 
 
@@ -55,10 +55,10 @@ def judge_header(file):
     if len(file) < 32:
         raise Refused(1)
     m, first, d, kernel, spare = struct.unpack_from("<HHBBH", file, 0)
-    grid, ceiling, tolerance, budget, spare_end = struct.unpack_from("<IIQII", file, 8)
+    grid, ceiling, tolerance, budget, second = struct.unpack_from("<IIQII", file, 8)
     if m > 256 or len(file) != start(m + 1):
         raise Refused(1)
-    if first > m or not 1 <= d <= 16 or kernel > 1 or spare or spare_end:
+    if first > m or not 1 <= d <= 16 or kernel > 1 or spare or second > 65536:
         raise Refused(2)
     if not 1 <= grid <= 1048576 or not 1 <= ceiling <= 65536 or tolerance > 10**12 or budget > 1000000:
         raise Refused(2)
@@ -87,7 +87,7 @@ def judge_record(file, number, d):
 
 
 def header(m, first):
-    """d 1, linear, S 10, c 100, t 0, budget 50."""
+    """d 1, linear, S 10, c 100, t 0, budget 50, second ceiling 0."""
     return struct.pack("<HHBBHIIQII", m, first, 1, 0, 0, 10, 100, 0, 50, 0)
 
 
@@ -129,8 +129,6 @@ EDGE_CASES = [
     ("kernel 2", put(KERNEL, 2)),
     ("spare byte 6", put(SPARE, 1)),
     ("spare byte 7", put(SPARE + 1, 1)),
-    ("spare byte 28", put(SPARE_END, 1)),
-    ("spare byte 31", put(SPARE_END + 3, 1)),
     ("S 0", put(S, 0, 4)),
     ("S 1048576", put(S, 1048576, 4)),
     ("S 1048577", put(S, 1048577, 4)),
@@ -141,6 +139,17 @@ EDGE_CASES = [
     ("t 1000000000001", put(T, 10**12 + 1, 8)),
     ("budget 1000000", put(BUDGET, 1000000, 4)),
     ("budget 1000001", put(BUDGET, 1000001, 4)),
+    ("second ceiling 0", put(SECOND, 0, 4)),
+    ("second ceiling 1", put(SECOND, 1, 4)),
+    ("second ceiling 100, as c", put(SECOND, 100, 4)),
+    ("second ceiling 65535", put(SECOND, 65535, 4)),
+    ("second ceiling 65536", put(SECOND, 65536, 4)),
+    ("second ceiling 65537", put(SECOND, 65537, 4)),
+    ("second ceiling 65792", put(SECOND, 65792, 4)),
+    ("second ceiling 131072", put(SECOND, 131072, 4)),
+    ("second ceiling 16777216", put(SECOND, 16777216, 4)),
+    ("second ceiling 4294967295", put(SECOND, 4294967295, 4)),
+    ("second ceiling 100, c 0", put(SECOND, 100, 4, put(C, 0, 4))),
     ("next 4, m 3", put(RECORD_3 + NEXT, 4, 2)),
     ("next 257, m 3", put(RECORD_3 + NEXT, 257, 2)),
     ("next 65535, m 3", put(RECORD_3 + NEXT, 65535, 2)),
@@ -195,7 +204,7 @@ def draw(pick):
             pick.choice([1, 100, 65536, pick.randint(1, 65536)]),
             pick.choice([0, 1, 10**12, pick.randint(0, 10**12)]),
             pick.choice([0, 50, 1000000]),
-            0,
+            pick.choice([0, 0, 1, 65536, pick.randint(1, 65536)]),
         )
     )
     file += bytes(pick.randrange(256) for _ in range(20 * m))

@@ -1,7 +1,8 @@
-/* Reads a small file, trains on it, certifies the result and classifies words:
- * a plain one, one exactly on the line, those with the highest and the lowest
- * feature, and one with a feature that none may have. Then it reads the file
- * with a damaged chain, and says which record to open. */
+/* Reads a small file, trains on it, certifies the result and multipliers of 0,
+ * with how far each can be from the best, and classifies words: a plain one, one
+ * exactly on the line, those with the highest and the lowest feature, and one
+ * with a feature that none may have. Then it reads the file with a damaged
+ * chain, and says which record to open. */
 #include <inttypes.h>
 #include <stdbool.h>
 #include <stdio.h>
@@ -33,6 +34,14 @@ static void put(uint8_t *at, uint64_t value, int bytes) {
     }
 }
 
+static uint64_t get(const uint8_t *at, int bytes) {
+    uint64_t value = 0;
+    for (int i = 0; i < bytes; i++) {
+        value |= (uint64_t)at[i] << (8 * i);
+    }
+    return value;
+}
+
 /* A record with one feature. */
 static void put_record(uint8_t *at, uint16_t next, uint8_t label, int8_t feature) {
     put(at, next, 2);
@@ -42,13 +51,14 @@ static void put_record(uint8_t *at, uint16_t next, uint8_t label, int8_t feature
 
 /* Two items of one feature: 1 was looked up, -1 was passed over. They stand in
  * records 3 and 1; record 2 is spare. Bytes that are not set here are 0: the
- * linear kernel, a tolerance of 0, and spare bytes. */
+ * linear kernel, a tolerance of 0, the second ceiling, that of items passed
+ * over, which says the same as the first, and spare bytes. */
 static void put_file(uint8_t file[FILE_LENGTH]) {
     put(file + 0, RECORDS, 2);
     put(file + 2, 3, 2);    /* the first record of the chain */
     put(file + 4, 1, 1);    /* features in use */
     put(file + 8, 10, 4);   /* grid units per 1 */
-    put(file + 12, 100, 4); /* ceiling of a multiplier */
+    put(file + 12, 100, 4); /* ceiling of items looked up */
     put(file + 24, 50, 4);  /* step budget */
     put_record(file + start(1), 0, WAS_PASSED_OVER, -1);
     put_record(file + start(3), 1, WAS_LOOKED_UP, 1);
@@ -144,14 +154,44 @@ static bool train(const uint8_t *file, Model *model) {
     return true;
 }
 
-static void certify(const uint8_t *file, const char *call, const uint32_t *multipliers,
-                    size_t count) {
+/* The sum of the items' ceilings: that of an item passed over is the second
+ * ceiling, or the first where the second is 0. */
+static uint64_t sum_of_ceilings(const uint8_t *file, const Model *model) {
+    uint64_t looked_up = get(file + 12, 4), second = get(file + 28, 4);
+    uint64_t passed_over = second == 0 ? looked_up : second;
+    uint64_t sum = 0;
+    for (size_t i = 0; i < model->items; i++) {
+        uint8_t label = file[start(model->order[i]) + 2];
+        sum += label == WAS_LOOKED_UP ? looked_up : passed_over;
+    }
+    return sum;
+}
+
+/* By how much the best objective can be lower: at most the gap between the
+ * thresholds times the sum of the items' ceilings. That can pass 64 bits, and
+ * is worked out in two parts, high times 2^32 and low, which do not. */
+static void print_distance(uint64_t ceilings, int64_t lower, int64_t upper) {
+    uint64_t gap = lower > upper ? (uint64_t)(lower - upper) : 0;
+    uint64_t low = ceilings * (gap & UINT32_MAX);
+    uint64_t high = ceilings * (gap >> 32) + (low >> 32);
+    printf("distance from the best: at most ");
+    if (high <= UINT32_MAX) {
+        printf("%" PRIu64 "\n", high << 32 | (low & UINT32_MAX));
+    } else {
+        printf("%" PRIu64 " * 2^32 + %" PRIu64 "\n", high, low & UINT32_MAX);
+    }
+}
+
+/* Hands over as many multipliers as there are items. */
+static void certify(const uint8_t *file, const Model *model, const char *call,
+                    const uint32_t *multipliers) {
     int64_t lower, upper;
     lookahead_answer answer =
-        lookahead_certify(file, FILE_LENGTH, multipliers, count, &lower, &upper);
+        lookahead_certify(file, FILE_LENGTH, multipliers, model->items, &lower, &upper);
     printf("%s: ", call);
     if (!refused(answer)) {
         printf("lower %" PRId64 ", upper %" PRId64 "\n", lower, upper);
+        print_distance(sum_of_ceilings(file, model), lower, upper);
     }
 }
 
@@ -177,20 +217,21 @@ static void read_damaged(const uint8_t *file, uint16_t record, uint16_t next) {
 
 int main(void) {
     uint8_t file[FILE_LENGTH] = {0};
-    const uint32_t unbalanced[] = {5, 4};
+    const uint32_t zeros[] = {0, 0}, unbalanced[] = {5, 4};
     Model model;
     put_file(file);
     printf("read: ");
     if (!read_items(file, &model) || !train(file, &model)) {
         return 1;
     }
-    certify(file, "certify", model.multipliers, model.items);
+    certify(file, &model, "certify", model.multipliers);
+    certify(file, &model, "certify 0 0", zeros);
     classify(file, &model, 3);
     classify(file, &model, 0);
     classify(file, &model, 127);
     classify(file, &model, -127);
     classify(file, &model, -128);
-    certify(file, "certify 5 4", unbalanced, 2);
+    certify(file, &model, "certify 5 4", unbalanced);
     read_damaged(file, 1, 3);
     read_damaged(file, 3, 4);
     return 0;

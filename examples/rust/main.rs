@@ -1,7 +1,8 @@
-//! Reads a small file, trains on it, certifies the result and classifies words:
-//! a plain one, one exactly on the line, those with the highest and the lowest
-//! feature, and one with a feature that none may have. Then it reads the file
-//! with a damaged chain, and says which record to open.
+//! Reads a small file, trains on it, certifies the result and multipliers of 0,
+//! with how far each can be from the best, and classifies words: a plain one, one
+//! exactly on the line, those with the highest and the lowest feature, and one
+//! with a feature that none may have. Then it reads the file with a damaged
+//! chain, and says which record to open.
 
 #[path = "../../include/lookahead.rs"]
 mod declared;
@@ -189,7 +190,7 @@ mod lookahead {
     }
 }
 
-use lookahead::{Class, Contents, Ending, Kernel, Refusal};
+use lookahead::{Class, Contents, Ending, Kernel, Refusal, Thresholds};
 
 /// Two items of one feature: 1 was looked up, -1 was passed over. They stand in
 /// records 3 and 1; record 2 is spare.
@@ -199,10 +200,10 @@ fn small_file() -> Vec<u8> {
     file.extend(3u16.to_le_bytes()); // the first record of the chain
     file.extend([1, 0, 0, 0]); // one feature in use, the linear kernel, spare
     file.extend(10u32.to_le_bytes()); // grid units per 1
-    file.extend(100u32.to_le_bytes()); // ceiling of a multiplier
+    file.extend(100u32.to_le_bytes()); // ceiling of items looked up
     file.extend(0u64.to_le_bytes()); // tolerance
     file.extend(50u32.to_le_bytes()); // step budget
-    file.extend([0; 4]); // spare
+    file.extend(0u32.to_le_bytes()); // that of items passed over: 0, the same
     file.extend(record(0, 2, -1));
     file.extend([0; 20]); // the spare record
     file.extend(record(1, 1, 1));
@@ -232,9 +233,43 @@ fn ending_name(ending: Ending) -> &'static str {
     }
 }
 
-fn print_certified(call: &str, file: &[u8], multipliers: &[u32]) {
+/// The sum of the items' ceilings: that of an item passed over is the second
+/// ceiling, or the first where the second is 0.
+fn sum_of_ceilings(file: &[u8], order: &[u16]) -> u64 {
+    let field = |start: usize| -> u64 {
+        let bytes = file[start..start + 4].try_into().expect("four bytes");
+        u32::from_le_bytes(bytes).into()
+    };
+    let (looked_up, second) = (field(12), field(28));
+    let passed_over = if second == 0 { looked_up } else { second };
+    let ceiling = |&record: &u16| match file[start(record) + 2] {
+        1 => looked_up,
+        _ => passed_over,
+    };
+    order.iter().map(ceiling).sum()
+}
+
+/// By how much the best objective can be lower: at most the gap between the
+/// thresholds times the sum of the items' ceilings. That can pass 64 bits, and
+/// is worked out in two parts, high times 2^32 and low, which do not.
+fn print_distance(ceilings: u64, found: &Thresholds) {
+    let gap = (found.lower - found.upper).max(0) as u64;
+    let mask = u64::from(u32::MAX);
+    let low = ceilings * (gap & mask);
+    let high = ceilings * (gap >> 32) + (low >> 32);
+    let bound = match high {
+        0..=0xffff_ffff => (high << 32 | (low & mask)).to_string(),
+        _ => format!("{high} * 2^32 + {}", low & mask),
+    };
+    println!("distance from the best: at most {bound}");
+}
+
+fn print_certified(call: &str, file: &[u8], order: &[u16], multipliers: &[u32]) {
     match lookahead::certify(file, multipliers) {
-        Ok(found) => println!("{call}: lower {}, upper {}", found.lower, found.upper),
+        Ok(found) => {
+            println!("{call}: lower {}, upper {}", found.lower, found.upper);
+            print_distance(sum_of_ceilings(file, order), &found);
+        }
         Err(refusal) => println!("{call}: {refusal}"),
     }
 }
@@ -300,16 +335,18 @@ fn main() -> Result<(), Refusal> {
     for (record, multiplier) in order.iter().zip(&multipliers) {
         println!("record {record}: multiplier {multiplier}");
     }
-    print_total(&file, &order[..read.items], &multipliers);
+    let order = &order[..read.items];
+    print_total(&file, order, &multipliers);
     let found = trained.thresholds;
     println!("thresholds: lower {}, upper {}", found.lower, found.upper);
-    print_certified("certify", &file, &multipliers);
+    print_certified("certify", &file, order, &multipliers);
+    print_certified("certify 0 0", &file, order, &[0, 0]);
     print_class(&file, &multipliers, 3);
     print_class(&file, &multipliers, 0);
     print_class(&file, &multipliers, 127);
     print_class(&file, &multipliers, -127);
     print_class(&file, &multipliers, -128);
-    print_certified("certify 5 4", &file, &[5, 4]);
+    print_certified("certify 5 4", &file, order, &[5, 4]);
     print_damaged(&file, 1, 3);
     print_damaged(&file, 3, 4);
     Ok(())

@@ -37,4 +37,4 @@ certifying file a = certifyRead (reading file) a
 abbrev pub CertifiedDistance : Reading → List ℕ → Certified → Type 0
 CertifiedDistance (refused why) a answer = Unit {0}
 CertifiedDistance (accepted p order items) a (Refused why) = Unit {0}
-CertifiedDistance (accepted p order items) a (Found found) = BoundedDistance (problem p items) (p .ceiling) (found .lower) (found .upper) (at a)
+CertifiedDistance (accepted p order items) a (Found found) = BoundedDistance (problem p items) (found .lower) (found .upper) (at a)

@@ -23,7 +23,7 @@ abbrev pub isZero : ℤ → Bool
 isZero (pos n) = eqb n 0
 isZero (negsuc n) = false
 
--- whether none of the first n multipliers is over its item's ceiling
+-- whether none of the first n multipliers is over "the item's own ceiling" (document 02, request (f))
 abbrev pub withinCeilings : ℕ → Problem → (ℕ → ℕ) → Bool
 withinCeilings n P a = all n (λ i. leb (a i) (P .ceiling i))
 

@@ -1,11 +1,12 @@
 -- Document 01, "Grid definitions", after report CD-99-14, formulas 2, 5 and 8; the whole-number grid and the finer grids are document
--- 01's. A position of document 01 counts from 1, a place here from 0. Laws are in Problem/Laws.antt. Assumes nothing.
+-- 01's. Its c is here "the item's own ceiling" (document 02, request (f)). A position of document 01 counts from 1, a place here from 0.
+-- Laws are in Problem/Laws.antt. Assumes nothing.
 pub mod Laws
 use mathlib.Core.Path.{_≡_}
-use mathlib.Core.Bool.{Bool, true}
+use mathlib.Core.Bool.{Bool, true, cond}
 use mathlib.Core.List.{List}
 use Prim.Native.Nat.{ℕ, _*_, _/_, _≤_, _<_}
-use lib.Dec.{ltb}
+use lib.Dec.{eqb, ltb}
 use lib.IntN.{ℤ, pos, negsuc, _+ℤ_, _-ℤ_, _*ℤ_}
 use lib.ListN.{length}
 use lib.Signed.{_≤ℤ_}
@@ -86,7 +87,8 @@ doubleSum P v = sum (P .count) (λ i. sum (P .count) (λ j. pos (v i) *ℤ pos (
 unfoldable pub objective : Problem → (ℕ → ℕ) → ℤ
 objective P a = doubleSum P a -ℤ pos 2 *ℤ pos (P .grid) *ℤ sum (P .count) (λ i. pos (a i))
 
--- "Finer grid, for a whole m' ≥ 1: whole numbers v with 0 ≤ v_i ≤ m' × c and sum of v_i × y_i equal to 0."
+-- "Finer grid, for a whole m' ≥ 1: whole numbers v with 0 ≤ v_i ≤ m' × c and sum of v_i × y_i equal to 0.": "v_i is at most m' times" the
+-- item's own ceiling
 pub record Finer (P : Problem) (m : ℕ) (v : ℕ → ℕ) : Type 0 where
   pub within : (i : ℕ) → i < P .count → v i ≤ m * P .ceiling i
   pub balanced : sum (P .count) (λ i. pos (v i) *ℤ y P i) ≡ pos 0
@@ -103,29 +105,38 @@ notBelowZero (negsuc n) = 0
 abbrev pub gap : ℤ → ℤ → ℕ
 gap lower upper = notBelowZero (lower -ℤ upper)
 
--- Demand 3: "2 times the gap, times the ceiling, times half the item count rounded down."
-abbrev pub bound : ℕ → ℕ → ℕ → ℕ
-bound g c n = 2 * g * c * (n / 2)
+-- Document 02, request (f): "at most the gap times the sum of all items' ceilings"
+abbrev pub bound : ℕ → Problem → ℤ
+bound g P = pos g *ℤ sum (P .count) (λ i. pos (P .ceiling i))
+
+-- "where both labels' ceilings are equal, demand 3's bound stays": all items then have one ceiling, and the bound is "2 times the gap, times
+-- the ceiling, times half the item count rounded down."
+abbrev pub EqualCeilings : Problem → ℕ → Type 0
+EqualCeilings P c = (i : ℕ) → i < P .count → P .ceiling i ≡ c
+
+abbrev pub equalBound : ℕ → ℕ → ℕ → ℤ
+equalBound g c n = pos (2 * g * c * (n / 2))
 
 -- Demand 3: no feasible multipliers, on this grid or on any finer one, have an objective below D minus the distance: "the objective of
 -- v plus m' × m' times the bound is at least m' × m' times D"
-unfoldable pub WithinDistance : ℕ → Problem → (ℕ → ℕ) → Type 0
-WithinDistance distance P a =
-    (m : ℕ) → 1 ≤ m → (v : ℕ → ℕ) → Finer P m v → (pos (m * m) *ℤ objective P a) ≤ℤ (finerObjective P m v +ℤ pos (m * m) *ℤ pos distance)
+pub record WithinDistance (distance : ℤ) (P : Problem) (a : ℕ → ℕ) : Type 0 where
+  pub this-grid : (v : ℕ → ℕ) → Feasible P v → objective P a ≤ℤ (objective P v +ℤ distance)
+  pub finer-grids : (m : ℕ) → 1 ≤ m → (v : ℕ → ℕ) → Finer P m v → (pos (m * m) *ℤ objective P a) ≤ℤ (finerObjective P m v +ℤ pos (m * m) *ℤ distance)
 
--- Demand 3 of multipliers a with the thresholds answered, where no ceiling is above c: they are feasible, the thresholds are attained, and
--- no feasible multipliers, of this grid or of a finer one, have an objective below theirs minus the bound
-pub record BoundedDistance (P : Problem) (c : ℕ) (lower upper : ℤ) (a : ℕ → ℕ) : Type 0 where
+-- Demand 3 of multipliers a with the thresholds answered: they are feasible, the thresholds are attained, and no feasible multipliers, of
+-- this grid or of a finer one, have an objective below theirs minus the bound
+pub record BoundedDistance (P : Problem) (lower upper : ℤ) (a : ℕ → ℕ) : Type 0 where
   pub feasible : Feasible P a
   pub thresholds : ThresholdsAttained P a lower upper
-  pub this-grid : (v : ℕ → ℕ) → Feasible P v → objective P a ≤ℤ (objective P v +ℤ pos (bound (gap lower upper) c (P .count)))
-  pub finer-grids : WithinDistance (bound (gap lower upper) c (P .count)) P a
+  pub always : WithinDistance (bound (gap lower upper) P) P a
+  pub equal-ceilings : (c : ℕ) → EqualCeilings P c → WithinDistance (equalBound (gap lower upper) c (P .count)) P a
 
 -- ---- the problem of a training file
 
--- the ceiling of an item with a label
+-- Document 02, request (f): "The field c serves label +1", and of the ceiling for label −1 "0 means the same as c"
 abbrev pub ceilingOf : Parameters → Label → ℕ
-ceilingOf p label = p .ceiling
+ceilingOf p LookedUp = p .ceiling
+ceilingOf p PassedOver = cond (eqb (p .second) 0) (p .ceiling) (p .second)
 
 abbrev pub problem : Parameters → List Item → Problem
 problem p items =

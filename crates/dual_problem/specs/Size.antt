@@ -31,3 +31,10 @@ gradientMost = weighedMost + gridMost
 -- a doubled score, from what all items add, twice, and both thresholds
 abbrev pub scoreMost : ℕ
 scoreMost = 2 * weighedMost + (gradientMost + gradientMost)
+
+-- the gap, from both thresholds, and the sum of all items' ceilings, whose product is the bound on the distance
+abbrev pub gapMost : ℕ
+gapMost = gradientMost + gradientMost
+
+abbrev pub ceilingsMost : ℕ
+ceilingsMost = recordsMost * ceilingMost

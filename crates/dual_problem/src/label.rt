@@ -24,6 +24,12 @@ pub fn ceiling(parameters: Parameters, label: Label) -> u32
 {
     match label {
         Label::LookedUp => parameters.ceiling,
-        Label::PassedOver => parameters.ceiling,
+        Label::PassedOver => {
+            if parameters.second == 0 {
+                parameters.ceiling
+            } else {
+                parameters.second
+            }
+        }
     }
 }

@@ -1,5 +1,6 @@
 -- Document 01, "Settled examples": P1 to P12 as one table of inputs and results, and one theorem, by the definitions that the
--- contracts of the public calls cite. E1 to E3 and K1 to K4 are our own, for requests (e) and (k) of document 02. Assumes nothing.
+-- contracts of the public calls cite. E1 to E3, K1 to K4 and F1 to F6 are our own, for requests (e), (k) and (f) of document 02. Assumes
+-- nothing.
 use mathlib.Core.Path.{_≡_, refl}
 use mathlib.Core.Bool.{Bool, false}
 use mathlib.Core.List.{List, [], _∷_, _++_}
@@ -37,11 +38,15 @@ use Rattle.classifying.specs.declared.classify.Classified.{Classified}
 use Rattle.classifying.specs.declared.classify.Classified.the-variants.{Is}
 use Rattle.classifying.specs.Classify.{classifying, score, scoreWith}
 
--- ---- the files, byte for byte: d 1; kernel, S, c, t, budget (each below 256); records chained in their order, by label and feature byte
-abbrev header : (m kernel S c t budget : ℕ) → List ℕ
-header m kernel S c t budget =
+-- ---- the files, byte for byte: d 1; kernel, S, c, t, budget (each below 256); records chained in their order, by label and feature byte.
+-- Of the ceiling for label −1, two bytes that are not always 0
+abbrev headerWith : (m kernel S c t budget second second₂ : ℕ) → List ℕ
+headerWith m kernel S c t budget second second₂ =
     (m ∷ 0 ∷ 1 ∷ 0 ∷ 1 ∷ kernel ∷ 0 ∷ 0 ∷ S ∷ 0 ∷ 0 ∷ 0 ∷ c ∷ 0 ∷ 0 ∷ 0 ∷ [])
-    ++ (t ∷ 0 ∷ 0 ∷ 0 ∷ 0 ∷ 0 ∷ 0 ∷ 0 ∷ budget ∷ 0 ∷ 0 ∷ 0 ∷ 0 ∷ 0 ∷ 0 ∷ 0 ∷ [])
+    ++ (t ∷ 0 ∷ 0 ∷ 0 ∷ 0 ∷ 0 ∷ 0 ∷ 0 ∷ budget ∷ 0 ∷ 0 ∷ 0 ∷ second ∷ 0 ∷ second₂ ∷ 0 ∷ [])
+
+abbrev header : (m kernel S c t budget : ℕ) → List ℕ
+header m kernel S c t budget = headerWith m kernel S c t budget 0 0
 
 abbrev stored : (next label feature : ℕ) → List ℕ
 stored next label feature = next ∷ 0 ∷ label ∷ 0 ∷ feature ∷ replicate 15 0
@@ -67,6 +72,13 @@ linked next₁ next₂ = header 2 0 10 100 0 50 ++ stored next₁ 1 1 ++ stored 
 -- P9's three items, where the last leads back to the second, and the first has a wrong label
 abbrev tailIntoCycle : List ℕ
 tailIntoCycle = header 3 0 1 2 0 50 ++ stored 2 9 10 ++ stored 3 2 246 ++ stored 2 2 10
+
+-- the ±1 file with S 10 and two ceilings, and a third item like the second
+abbrev ceilings : (c second second₂ : ℕ) → List ℕ
+ceilings c second second₂ = headerWith 2 0 10 c 0 50 second second₂ ++ stored 2 1 1 ++ stored 0 2 255
+
+abbrev oneAgainstTwo : (c second : ℕ) → List ℕ
+oneAgainstTwo c second = headerWith 3 0 10 c 0 50 second 0 ++ stored 2 1 1 ++ stored 3 2 255 ++ stored 0 2 255
 
 -- ---- the cases
 pub data Case : Type 0 where
@@ -134,6 +146,13 @@ settledExamples =
     ∷ refuses (linked 1 0) (refusalAt 16 1)  -- K2
     ∷ refuses (linked 2 3) (refusalAt 3 2)  -- K3
     ∷ refuses tailIntoCycle (refusalAt 16 3)  -- K4
+    ∷ trains (ceilings 100 3 0) Converged 1 (negsuc 3) (negsuc 3) (3 ∷ 3 ∷ 9 ∷ [])  -- F1
+    ∷ trains (ceilings 3 100 0) Converged 1 (pos 4) (pos 4) (3 ∷ 3 ∷ 9 ∷ [])  -- F2
+    ∷ trains (ceilings 100 100 0) Converged 1 (pos 0) (pos 0) (5 ∷ 5 ∷ 9 ∷ [])  -- F3
+    ∷ refuses (ceilings 100 1 1) (refusal 2)  -- F4
+    ∷ certifies (ceilings 100 3 0) (4 ∷ 4 ∷ []) (certified.Refused (refusal 7))  -- F5
+    ∷ certifies (ceilings 3 100 0) (4 ∷ 4 ∷ []) (certified.Refused (refusal 7))
+    ∷ trains (oneAgainstTwo 100 2) Converged 2 (negsuc 1) (negsuc 1) (4 ∷ 2 ∷ 2 ∷ [])  -- F6
     ∷ []
 
 pub settled : AllHold settledExamples
@@ -157,7 +176,7 @@ settled = (
                 (refl, refl),
                 (
                   refl,
-                  ((refl, refl), (refl, (refl, (refl, ((refl, refl), ((refl, refl), ((refl, refl), ((refl, refl), ((refl, refl), (refl, (refl, (refl, (refl, tt))))))))))))),
+                  ((refl, refl), (refl, (refl, (refl, ((refl, refl), ((refl, refl), ((refl, refl), ((refl, refl), ((refl, refl), (refl, (refl, (refl, (refl, ((refl, refl), ((refl, refl), ((refl, refl), (refl, (refl, (refl, ((refl, refl), tt)))))))))))))))))))),
                 ),
               ),
             ),

@@ -33,7 +33,7 @@ certifySeen answer before = record { refusal = certifyRefusal answer; found = ce
 
 -- Demand 3, of the multipliers handed in and of what the caller sees after an answer of number 0
 abbrev pub AnsweredDistance : Parameters → List Item → List ℕ → ℕ → Thresholds → Type 0
-AnsweredDistance p items a zero found = BoundedDistance (problem p items) (p .ceiling) (found .lower) (found .upper) (at a)
+AnsweredDistance p items a zero found = BoundedDistance (problem p items) (found .lower) (found .upper) (at a)
 AnsweredDistance p items a (suc number) found = Unit {0}
 
 abbrev pub SeenDistance : Reading → List ℕ → CertifySeen → Type 0

@@ -9,7 +9,7 @@ use Rattle.training_file.specs.declared.parameters.Parameters.{Parameters}
 use Rattle.training_file.specs.declared.parameters.ParametersAnswer.{ParametersAnswer}
 use Rattle.training_file.specs.declared.parameters.ParametersAnswer.the-variants.{Refused, Allowed}
 use Rattle.training_file.specs.Refusal.{refusal}
-use Rattle.training_file.specs.Layout.{ceilingUnits, featuresInUse, firstRecord, gridUnits, kernelByte, recordsStored, spare, spareEnd, stepBudget, toleranceUnits}
+use Rattle.training_file.specs.Layout.{ceilingUnits, featuresInUse, firstRecord, gridUnits, kernelByte, recordsStored, secondUnits, spare, stepBudget, toleranceUnits}
 use Rattle.training_file.specs.Parameters.{kernelAllowed, kernelOfByte, parametersAllowed, recordsMost}
 use Rattle.chain.specs.declared.count.Count.{Count}
 use Rattle.chain.specs.Stages.{countIf}
@@ -26,6 +26,7 @@ parametersOf file =
       kernel = kernelOfByte (kernelByte file);
       grid = gridUnits file;
       ceiling = ceilingUnits file;
+      second = secondUnits file;
       tolerance = toleranceUnits file;
       budget = stepBudget file;
     }
@@ -35,7 +36,6 @@ unfoldable pub headerAllowed : List ℕ → Bool
 headerAllowed file =
     leb (firstRecord file) (recordsStored file)
     && eqb (spare file) 0
-    && eqb (spareEnd file) 0
     && kernelAllowed (kernelByte file)
     && parametersAllowed (parametersOf file)
 

@@ -44,9 +44,6 @@ pub fn read_parameters(file: &[u8]) -> ParametersAnswer
     if u16_at(file, layout::SPARE) != 0 {
         return ParametersAnswer::Refused(Refusal::HEADER);
     }
-    if u32_at(file, layout::SPARE_END) != 0 {
-        return ParametersAnswer::Refused(Refusal::HEADER);
-    }
     let answer = Kernel::from_byte(file[layout::KERNEL]);
     let KernelAnswer::Known(kernel) = answer else {
         return ParametersAnswer::Refused(answer.refusal());
@@ -56,6 +53,7 @@ pub fn read_parameters(file: &[u8]) -> ParametersAnswer
         kernel,
         u32_at(file, layout::GRID),
         u32_at(file, layout::CEILING),
+        u32_at(file, layout::SECOND_CEILING),
         u64_at(file, layout::TOLERANCE),
         u32_at(file, layout::BUDGET),
     )

@@ -5,7 +5,7 @@ ghost use mathlib.Core.Path.{_≡_};
 ghost use Prim.Native.Nat.{_+_, _*_, _≤_};
 ghost use lib.IntN.{natAbs};
 ghost use Rattle.integers.specs.Written.{written};
-ghost use Rattle.training_file.specs.Parameters.{ceilingMost};
+ghost use Rattle.training_file.specs.Parameters.{Ranges, ceilingMost};
 ghost use Rattle.reading.specs.Reading.{reading};
 ghost use Rattle.reading.specs.Calls.{itemsIn};
 ghost use Rattle.dual_problem.specs.Size.{gradientMost, kernelMost, termMost};
@@ -103,7 +103,7 @@ pub fn take_step(
     i: usize,
     j: usize,
 )
-    requires { ⌜ State (now file) (now order) count parameters (now multipliers) (now gradient) × (parameters .ceiling ≤ ceilingMost)
+    requires { ⌜ State (now file) (now order) count parameters (now multipliers) (now gradient) × Ranges parameters
         × Candidate (problemOf (now file) parameters) (now multipliers) i j ⌝ }
     ensures multipliers { λ _. ⌜ now (multipliers .exit) ≡ stepped (problemOf (now (file .entry)) parameters) (now (multipliers .entry)) i j ⌝ }
     ensures gradient { λ _.

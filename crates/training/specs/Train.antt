@@ -66,7 +66,7 @@ trainFrom file p n a g =
 -- than the bound with the thresholds answered; each ending means what document 01 says; and training is stuck exactly when the gap
 -- passes twice the tolerance and no move of two multipliers lowers the objective
 pub record ResultQuality (p : Parameters) (P : Problem) (result : Trained) (a : List ℕ) : Type 0 where
-  pub bounded : BoundedDistance P (p .ceiling) (result .lower) (result .upper) (at a)
+  pub bounded : BoundedDistance P (result .lower) (result .upper) (at a)
   pub in-budget : result .steps ≤ p .budget
   pub means : Means P (p .tolerance) (p .budget) (result .steps) (result .lower) (result .upper) a (result .ending)
   pub stuck-exactly : (result .ending ≡ Stuck) ↔ (GapPasses (p .tolerance) (result .lower) (result .upper) × NoMoveLowers P (at a))

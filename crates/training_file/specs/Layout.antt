@@ -53,7 +53,7 @@ spare file = le2 file 6
 abbrev pub gridUnits : List ℕ → ℕ
 gridUnits file = le4 file 8
 
--- "c, ceiling of a multiplier in grid units"
+-- "c, ceiling of a multiplier in grid units", which "serves label +1" (document 02, request (f))
 abbrev pub ceilingUnits : List ℕ → ℕ
 ceilingUnits file = le4 file 12
 
@@ -65,9 +65,9 @@ toleranceUnits file = le8 file 16
 abbrev pub stepBudget : List ℕ → ℕ
 stepBudget file = le4 file 24
 
--- "spare", bytes 28-31
-abbrev pub spareEnd : List ℕ → ℕ
-spareEnd file = le4 file 28
+-- "the ceiling for label −1" (document 02, request (f))
+abbrev pub secondUnits : List ℕ → ℕ
+secondUnits file = le4 file 28
 
 -- ---- "Then come m records of 20 bytes, numbered from 1"
 

@@ -17,7 +17,7 @@ recordsMost = 256
 abbrev pub gridMost : ℕ
 gridMost = 1048576
 
--- c is "1 to 65,536"
+-- c is "1 to 65,536"; of the ceiling for label −1, "0 means the same as c, otherwise 1 to 65,536" (document 02, request (f))
 abbrev pub ceilingMost : ℕ
 ceilingMost = 65536
 
@@ -45,12 +45,16 @@ abbrev pub byteOfKernel : Kernel → ℕ
 byteOfKernel Linear = 0
 byteOfKernel Square = 1
 
--- d ("1 to 16", the features that an item has), S, c, t and the step budget, each within its range
+-- both ceilings, each within its range
+abbrev pub ceilingsAllowed : ℕ → ℕ → Bool
+ceilingsAllowed ceiling second = within 1 ceilingMost ceiling && within 0 ceilingMost second
+
+-- d ("1 to 16", the features that an item has), S, both ceilings, t and the step budget, each within its range
 unfoldable pub parametersAllowed : Parameters → Bool
 parametersAllowed p =
     within 1 featureCount (p .used)
     && within 1 gridMost (p .grid)
-    && within 1 ceilingMost (p .ceiling)
+    && ceilingsAllowed (p .ceiling) (p .second)
     && within 0 toleranceMost (p .tolerance)
     && within 0 budgetMost (p .budget)
 
@@ -62,5 +66,6 @@ pub record Ranges (p : Parameters) : Type 0 where
   pub grid-greatest : p .grid ≤ gridMost
   pub ceiling-least : 1 ≤ p .ceiling
   pub ceiling-greatest : p .ceiling ≤ ceilingMost
+  pub second-greatest : p .second ≤ ceilingMost
   pub tolerance-greatest : p .tolerance ≤ toleranceMost
   pub budget-greatest : p .budget ≤ budgetMost

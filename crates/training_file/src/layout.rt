@@ -19,7 +19,7 @@ pub const TOLERANCE: usize = 16;
 
 pub const BUDGET: usize = 24;
 
-pub const SPARE_END: usize = 28;
+pub const SECOND_CEILING: usize = 28;
 
 pub const HEADER_LENGTH: usize = 32;
 

@@ -1,7 +1,7 @@
 // The parameters of training, judged as they are made. The least and the greatest value of each field stand here alone.
 
 ghost use mathlib.Core.Path.{_≡_};
-ghost use Rattle.training_file.specs.Parameters.{byteOfKernel};
+ghost use Rattle.training_file.specs.Parameters.{byteOfKernel, ceilingsAllowed};
 ghost use Rattle.training_file.specs.Answers.{kernelAnswer, kernelRefusal, parametersAnswer, parametersRefusal};
 use super::item::Item;
 use super::range::within;
@@ -65,8 +65,10 @@ pub struct Parameters {
     pub kernel: Kernel,
     // S, grid units per 1.
     pub grid: u32,
-    // c, the ceiling of a multiplier, in grid units.
+    // c, the ceiling of label +1, in grid units.
     pub ceiling: u32,
+    // The ceiling of label −1, as the header has it: 0 means the same as c.
+    pub second: u32,
     // t, in grid units.
     pub tolerance: u64,
     // How many steps training may take.
@@ -103,6 +105,10 @@ impl Parameters {
 
     pub const MAX_CEILING: u32 = 65_536;
 
+    pub const MIN_SECOND: u32 = 0;
+
+    pub const MAX_SECOND: u32 = Parameters::MAX_CEILING;
+
     pub const MIN_TOLERANCE: u64 = 0;
 
     pub const MAX_TOLERANCE: u64 = 1_000_000_000_000;
@@ -111,17 +117,36 @@ impl Parameters {
 
     pub const MAX_BUDGET: u32 = 1_000_000;
 
+    // Whether both ceilings are within their ranges.
+    fn ceilings_within(ceiling: u32, second: u32) -> bool
+        ensures { λ r. ⌜ r ≡ ceilingsAllowed ceiling second ⌝ }
+    {
+        if !within(
+            Parameters::MIN_CEILING as u64,
+            Parameters::MAX_CEILING as u64,
+            ceiling as u64,
+        ) {
+            return false;
+        }
+        within(
+            Parameters::MIN_SECOND as u64,
+            Parameters::MAX_SECOND as u64,
+            second as u64,
+        )
+    }
+
     // The parameters, where each is within its range.
     pub fn new(
         used: usize,
         kernel: Kernel,
         grid: u32,
         ceiling: u32,
+        second: u32,
         tolerance: u64,
         budget: u32,
     ) -> ParametersAnswer
         ensures { λ r.
-            ⌜ r ≡ parametersAnswer (record { used = used; kernel = kernel; grid = grid; ceiling = ceiling; tolerance = tolerance; budget = budget }) ⌝ }
+            ⌜ r ≡ parametersAnswer (record { used = used; kernel = kernel; grid = grid; ceiling = ceiling; second = second; tolerance = tolerance; budget = budget }) ⌝ }
     {
         let refused = ParametersAnswer::Refused(Refusal::HEADER);
         if !within(
@@ -138,11 +163,7 @@ impl Parameters {
         ) {
             return refused;
         }
-        if !within(
-            Parameters::MIN_CEILING as u64,
-            Parameters::MAX_CEILING as u64,
-            ceiling as u64,
-        ) {
+        if !Parameters::ceilings_within(ceiling, second) {
             return refused;
         }
         if !within(
@@ -164,6 +185,7 @@ impl Parameters {
             kernel,
             grid,
             ceiling,
+            second,
             tolerance,
             budget,
         })

@@ -46,7 +46,8 @@ movedPair a i x j z s = set (set a i (lowered x (at a i) s)) j (raised z (at a j
 abbrev pub moved : Problem → List ℕ → ℕ → ℕ → ℕ → List ℕ
 moved P a i j s = movedPair a i (P .label i) j (P .label j) s
 
--- "r is the largest s that keeps both in 0 to c": how far a × y can rise, and how far it can fall
+-- "r is the largest s that keeps both in 0 to c": how far a × y can rise, and how far it can fall. Of both, each "the item's own ceiling"
+-- (document 02, request (f))
 abbrev pub rise : Label → ℕ → ℕ → ℕ
 rise LookedUp a c = c - a
 rise PassedOver a c = a

@@ -20,7 +20,7 @@ enum { MOST = 256, LOWEST = -127, HIGHEST = 127 };
 typedef struct {
     int d, kernel, n, y[MOST];
     size_t record[MOST + 1]; /* mutations 135 and 136 can meet one record twice */
-    int64_t S, c, t;
+    int64_t S, c, second, t;
     uint32_t budget;
     const int8_t *x[MOST];
     int64_t a[MOST], G[MOST], lower, upper;
@@ -69,8 +69,32 @@ static uint8_t judge_length(const uint8_t *f, size_t len) {
     return (WRONG(37) ? len < 32 + 20 * m : len != 32 + 20 * m) ? 1 : 0;
 }
 
+/* The second ceiling as the header has it. */
+static int64_t second_ceiling(const uint8_t *f) {
+    if (WRONG(175)) return (int32_t)field(f + 28, 4);
+    return (int64_t)field(f + 28, WRONG(173) ? 2 : WRONG(174) ? 3 : 4);
+}
+
+/* Whether it is out of its range. */
+static int second_out_of_range(const Problem *p, int64_t second) {
+    if (WRONG(176)) return second != 0;
+    if (WRONG(177) && second > p->c) return 1;
+    if (WRONG(178) && second == 0) return 1;
+    return second > 65536 + WRONG(179) - WRONG(180);
+}
+
+/* The ceiling of items passed over. */
+static int64_t passed_over_ceiling(const Problem *p, int64_t second) {
+    if (WRONG(181)) return second;
+    if (WRONG(182)) return second == 0 ? 65536 : second;
+    if (WRONG(183)) return second > 0 && second < p->c ? second : p->c;
+    if (WRONG(184)) return second > p->c ? second : p->c;
+    return second > 0 ? second : p->c;
+}
+
 static uint8_t judge_header(Problem *p, const uint8_t *f) {
     uint64_t t = field(f + 16, 8);
+    int64_t second = second_ceiling(f);
     p->d = f[4];
     p->kernel = f[5];
     p->S = (int64_t)field(f + 8, 4);
@@ -78,11 +102,13 @@ static uint8_t judge_header(Problem *p, const uint8_t *f) {
     p->t = (int64_t)t;
     p->budget = (uint32_t)field(f + 24, 4);
     if (first_record(f) > field(f, 2)) return WRONG(18) ? 3 : 2;
-    if (p->d < 1 || p->d > 16 - WRONG(85) || p->kernel > 1 || f[6] || f[7]) return 2;
+    if (p->d < 1 || p->d > 16 - WRONG(85) || p->kernel > 1 || f[6] || (f[7] && !WRONG(46))) return 2;
+    if (WRONG(185) && p->c == 0) p->c = second;
     if (p->S < 1 || p->S > 1048576 - WRONG(83) || p->c < 1 || p->c > 65536 + WRONG(45) - WRONG(84)) return 2;
     if (WRONG(32) ? p->t > 1000000000000 : t > 1000000000000u - WRONG(82)) return 2;
     if (p->budget > 1000000 - WRONG(81)) return 2;
-    return f[28] || f[29] || f[30] || (f[31] && !WRONG(46)) ? 2 : 0;
+    p->second = passed_over_ceiling(p, second);
+    return second_out_of_range(p, second) && !WRONG(186) ? 2 : 0;
 }
 
 static size_t next_of(const uint8_t *f, size_t r) {
@@ -189,6 +215,7 @@ static lookahead_answer read_file(Problem *p, const uint8_t *f, size_t len) {
     if (WRONG(155) && answer.number == 2 && first_record(f) > field(f, 2)) answer.record = (uint16_t)first_record(f);
     if (!answer.number && (WRONG(16) || WRONG(147) || WRONG(148))) answer = judge_all(p, f);
     if (!answer.number) answer = walk(p, f);
+    if (WRONG(186) && !answer.number && second_ceiling(f) > 65536) return refused(2);
     if (answer.number == 16 && (WRONG(149) || WRONG(150))) {
         lookahead_answer items = judge_items(p, f);
         if (items.number == 4 || (WRONG(150) && items.number == 5)) return items;
@@ -196,12 +223,26 @@ static lookahead_answer read_file(Problem *p, const uint8_t *f, size_t len) {
     return answer.number ? answer : judge_items(p, f);
 }
 
-static int can_rise(const Problem *p, int i) { return p->a[i] < p->c - WRONG(86); }
+/* Where an item's ceiling is asked for; mutations take another in one of them. */
+typedef enum { UP_SET, LOW_SET, ROOM, NUMBER_7 } Use;
+
+static int64_t ceiling(const Problem *p, int i, Use use) {
+    int64_t c = p->c, second = p->second;
+    if (WRONG(162) || (WRONG(163) && use == ROOM) || (WRONG(164) && use == NUMBER_7)) return p->y[i] > 0 ? second : c;
+    if ((WRONG(165) && use == LOW_SET) || (WRONG(166) && use == ROOM) || (WRONG(167) && use == NUMBER_7)) return c;
+    if ((WRONG(168) && use == UP_SET) || (WRONG(169) && use == ROOM) || (WRONG(170) && use == NUMBER_7)) return second;
+    if (WRONG(171) && use == NUMBER_7) return c > second ? c : second;
+    if (WRONG(172) && use == NUMBER_7) return c < second ? c : second;
+    return p->y[i] > 0 ? c : second;
+}
+
+static int can_rise(const Problem *p, int i, Use use) { return p->a[i] < ceiling(p, i, use) - WRONG(86); }
 static int can_fall(const Problem *p, int i) { return p->a[i] > 0; }
-static int in_up(const Problem *p, int i) { return p->y[i] > 0 || WRONG(35) ? can_rise(p, i) : can_fall(p, i); }
-static int in_low(const Problem *p, int i) { return p->y[i] > 0 ? can_fall(p, i) : can_rise(p, i); }
+static int in_up(const Problem *p, int i) { return p->y[i] > 0 || WRONG(35) ? can_rise(p, i, UP_SET) : can_fall(p, i); }
+static int in_low(const Problem *p, int i) { return p->y[i] > 0 ? can_fall(p, i) : can_rise(p, i, LOW_SET); }
 
 static void set_thresholds(Problem *p) {
+    p->lower = p->upper = 0;
     p->at_lower = p->at_upper = -1;
     for (int i = 0; i < p->n; i++) {
         int64_t G = p->G[i];
@@ -258,7 +299,8 @@ static int find_pair(const Problem *p, int *pi, int *pj) {
 
 static int64_t amount(const Problem *p, int i, int j) {
     int64_t g = p->G[i] - p->G[j], e = eta(p, i, j);
-    int64_t r_i = p->y[i] > 0 ? p->a[i] : p->c - p->a[i], r_j = p->y[j] > 0 ? p->c - p->a[j] : p->a[j];
+    int64_t top_i = ceiling(p, WRONG(187) ? j : i, ROOM), top_j = ceiling(p, WRONG(188) ? i : j, ROOM);
+    int64_t r_i = p->y[i] > 0 ? p->a[i] : top_i - p->a[i], r_j = p->y[j] > 0 ? top_j - p->a[j] : p->a[j];
     int64_t r = r_i < r_j || WRONG(71) ? r_i : r_j;
     if (WRONG(55)) return 1;
     if (e == 0) return WRONG(56) ? 1 : r;
@@ -273,10 +315,11 @@ static int64_t amount(const Problem *p, int i, int j) {
 static void make_move(Problem *p, int i, int j, int64_t s) {
     p->a[i] -= p->y[i] * s;
     p->a[j] += p->y[j] * s;
-    for (int k = 0; k < p->n - WRONG(78) * (s == p->c); k++) p->G[k] += s * (kernel(p, p->x[k], p->x[j]) - kernel(p, p->x[k], p->x[i]));
+    for (int k = 0; k < p->n - WRONG(78) * (s == ceiling(p, i, ROOM)); k++) p->G[k] += s * (kernel(p, p->x[k], p->x[j]) - kernel(p, p->x[k], p->x[i]));
 }
 
 static int converged(const Problem *p) {
+    if (p->at_lower < 0 || p->at_upper < 0) return 1; /* an empty set: mutations 86 and 181 alone */
     int64_t t = WRONG(13) ? p->t : 2 * p->t;
     return WRONG(12) ? p->lower < p->upper + t : p->lower <= p->upper + t;
 }
@@ -374,7 +417,7 @@ static uint8_t judge_feasible(Problem *p, const uint32_t *multipliers) {
     uint8_t over = 0;
     for (int i = 0; i < p->n; i++) {
         p->a[i] = WRONG(64) ? (int64_t)(int32_t)multipliers[i] : (int64_t)multipliers[i];
-        over |= p->a[i] > p->c + WRONG(36);
+        over |= p->a[i] > ceiling(p, i, NUMBER_7) + WRONG(36);
         sum += p->a[i] * p->y[i];
     }
     if (WRONG(21) && sum != 0) return 8;

@@ -21,12 +21,13 @@ pub fn moved(state: &State, i: usize, j: usize, s: i128) -> (i128, i128) {
     )
 }
 
-/// r, "the largest s that keeps both in 0 to c", found by counting up.
+/// r, the largest s that keeps each of both in 0 to its ceiling, found by
+/// counting up.
 pub fn room(state: &State, i: usize, j: usize) -> i128 {
-    let fits = |a: i128| (0..=state.problem.parameters.ceiling).contains(&a);
+    let fits = |position: usize, a: i128| (0..=state.problem.ceiling(position)).contains(&a);
     let keeps = |s| {
         let (a_i, a_j) = moved(state, i, j, s);
-        fits(a_i) && fits(a_j)
+        fits(i, a_i) && fits(j, a_j)
     };
     (0..)
         .take_while(|&s| keeps(s))

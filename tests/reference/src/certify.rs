@@ -25,13 +25,11 @@ pub fn judge_count(problem: &Problem, multipliers: &[u32]) -> Result<(), u8> {
     }
 }
 
-/// Refusal 7, a multiplier over c, for the whole list ahead of refusal 8, the
-/// sum of a × y is not 0.
+/// Refusal 7, a multiplier over its item's ceiling, for the whole list ahead of
+/// refusal 8, the sum of a × y is not 0.
 pub fn judge_feasible(problem: &Problem, multipliers: &[u32]) -> Result<(), u8> {
-    if multipliers
-        .iter()
-        .any(|&a| i128::from(a) > problem.parameters.ceiling)
-    {
+    let over = |i: usize| i128::from(multipliers[i]) > problem.ceiling(i);
+    if (0..multipliers.len()).any(over) {
         return Err(7);
     }
     let sum: i128 = problem

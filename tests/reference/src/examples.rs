@@ -1,5 +1,5 @@
-//! The files of document 01's settled examples, and three at the ends of what a
-//! training can be.
+//! The files of document 01's settled examples, our own for the second ceiling,
+//! and three at the ends of what a training can be.
 
 use crate::file::{MOST_RECORDS, RECORD_BYTES};
 use crate::generate::draft::{Draft, LOOKED_UP, PASSED_OVER};
@@ -14,6 +14,7 @@ pub fn plus_minus_one(units: u32, ceiling: u32, tolerance: u64) -> Draft {
         ceiling,
         tolerance,
         budget: 50,
+        second_ceiling: 0,
         items: vec![(LOOKED_UP, vec![1]), (PASSED_OVER, vec![-1])],
     }
 }
@@ -78,6 +79,71 @@ pub fn settled() -> Vec<Vec<u8>> {
         .iter()
         .map(Draft::plain)
         .collect()
+}
+
+/// The second ceiling stops the item passed over, far below c.
+pub fn f1() -> Draft {
+    Draft {
+        second_ceiling: 3,
+        ..p1()
+    }
+}
+
+/// c stops the item looked up, far below the second ceiling.
+pub fn f2() -> Draft {
+    Draft {
+        second_ceiling: 100,
+        ..p2()
+    }
+}
+
+/// P1 with c given twice.
+pub fn f3() -> Draft {
+    Draft {
+        second_ceiling: 100,
+        ..p1()
+    }
+}
+
+/// P1 with a second ceiling beyond its range.
+pub fn f4() -> Draft {
+    Draft {
+        second_ceiling: 65_537,
+        ..p1()
+    }
+}
+
+/// Two items passed over, alike, go to the second ceiling one after the other.
+pub fn f6() -> Draft {
+    let items = vec![
+        (LOOKED_UP, vec![1]),
+        (PASSED_OVER, vec![-1]),
+        (PASSED_OVER, vec![-1]),
+    ];
+    Draft {
+        items,
+        second_ceiling: 2,
+        ..p1()
+    }
+}
+
+/// The file of F6 with each ceiling at an end of its range.
+fn ceilings_at_the_ends() -> Vec<Draft> {
+    let ends = [(1, 1), (1, 65_536), (65_536, 1), (65_536, 65_536)];
+    let draft = |&(ceiling, second_ceiling): &(u32, u32)| Draft {
+        ceiling,
+        second_ceiling,
+        ..f6()
+    };
+    ends.iter().map(draft).collect()
+}
+
+/// The files of F1 to F4 and F6, our own examples, and those at the ends; F5 uses
+/// the files of F1 and F2.
+pub fn second_ceilings() -> Vec<Vec<u8>> {
+    let mut drafts = vec![f1(), f2(), f3(), f4(), f6()];
+    drafts.extend(ceilings_at_the_ends());
+    drafts.iter().map(Draft::plain).collect()
 }
 
 /// The example of the training program: three records, first 3, record 2 spare.

@@ -1,5 +1,5 @@
 //! Reading a training file: document 01, "The training file" and refusals 1 to 5,
-//! and document 02, request (k): refusal 16.
+//! and document 02, requests (k), refusal 16, and (f), the second ceiling.
 //!
 //! Refusals 1, 2, 4 and 5 have a pass over the file each, 3 and 16 share one, so
 //! that the order of the tests can be seen by reading `read` from top to bottom.
@@ -26,6 +26,8 @@ pub enum Label {
 }
 
 impl Label {
+    pub const BOTH: [Label; 2] = [Label::LookedUp, Label::PassedOver];
+
     /// The y of the formulas.
     pub fn sign(self) -> i128 {
         match self {
@@ -43,11 +45,30 @@ pub struct Parameters {
     pub kernel: Kernel,
     /// S, grid units per 1.
     pub units: i128,
-    /// c, the ceiling of a multiplier.
+    /// c, the ceiling of items looked up.
     pub ceiling: i128,
+    /// The second ceiling, that of items passed over, as the header has it: "0
+    /// means the same as c".
+    pub second_ceiling: i128,
     /// t, the tolerance.
     pub tolerance: i128,
     pub budget: u32,
+}
+
+impl Parameters {
+    /// The highest multiplier that an item of a label may have: "the item's own
+    /// ceiling". Everything that needs a ceiling asks here.
+    pub fn ceiling_of(&self, label: Label) -> i128 {
+        match (label, self.second_ceiling) {
+            (Label::LookedUp, _) | (Label::PassedOver, 0) => self.ceiling,
+            (Label::PassedOver, second_ceiling) => second_ceiling,
+        }
+    }
+
+    /// The ceilings of items looked up and of items passed over.
+    pub fn ceilings(&self) -> [i128; 2] {
+        Label::BOTH.map(|label| self.ceiling_of(label))
+    }
 }
 
 /// A chained record. Only the first d features are kept: the rest are zero in
@@ -64,6 +85,13 @@ pub struct Item {
 pub struct Problem {
     pub parameters: Parameters,
     pub items: Vec<Item>,
+}
+
+impl Problem {
+    /// The ceiling of the item at a position.
+    pub fn ceiling(&self, position: usize) -> i128 {
+        self.parameters.ceiling_of(self.items[position].label)
+    }
 }
 
 /// The problem stored in the file, or the first refusal met.
@@ -100,14 +128,16 @@ fn judge_header(file: &[u8], records: usize) -> Result<Parameters, u8> {
     let ceiling = number(file, 12, 4);
     let tolerance = number(file, 16, 8);
     let budget = number(file, 24, 4);
+    let second_ceiling = number(file, 28, 4);
     let in_range = first <= records as u64
         && (1..=STORED_FEATURES as u64).contains(&features)
         && kernel <= 1
         && (1..=MOST_UNITS).contains(&units)
         && (1..=HIGHEST_CEILING).contains(&ceiling)
         && tolerance <= HIGHEST_TOLERANCE
-        && budget <= HIGHEST_BUDGET;
-    let spare_zero = number(file, 6, 2) == 0 && number(file, 28, 4) == 0;
+        && budget <= HIGHEST_BUDGET
+        && second_ceiling <= HIGHEST_CEILING;
+    let spare_zero = number(file, 6, 2) == 0;
     if !in_range || !spare_zero {
         return Err(2);
     }
@@ -120,6 +150,7 @@ fn judge_header(file: &[u8], records: usize) -> Result<Parameters, u8> {
         },
         units: units.into(),
         ceiling: ceiling.into(),
+        second_ceiling: second_ceiling.into(),
         tolerance: tolerance.into(),
         budget: budget as u32,
     })

@@ -1,7 +1,9 @@
 //! The settled examples P1 to P12, the cases that are run only, every cause of a
 //! refusal, and how often words on the line are drawn.
 
+mod ceilings;
 mod chains;
+mod samples;
 
 use crate::certify::thresholds_of;
 use crate::classify::{doubled_score, score};

@@ -1,20 +1,21 @@
-//! The up set, the low set and both thresholds: document 01, "Grid definitions".
+//! The up set, the low set and both thresholds: document 01, "Grid definitions",
+//! with document 02, request (f): "both sets ... use the item's own ceiling".
 
 use crate::file::{Label, Problem};
 
-/// Up set: y = +1 with a < c, or y = −1 with a > 0.
+/// Up set: y = +1 with a below its ceiling, or y = −1 with a > 0.
 pub fn in_up_set(problem: &Problem, multipliers: &[i128], i: usize) -> bool {
     match problem.items[i].label {
-        Label::LookedUp => multipliers[i] < problem.parameters.ceiling,
+        Label::LookedUp => multipliers[i] < problem.ceiling(i),
         Label::PassedOver => multipliers[i] > 0,
     }
 }
 
-/// Low set: y = +1 with a > 0, or y = −1 with a < c.
+/// Low set: y = +1 with a > 0, or y = −1 with a below its ceiling.
 pub fn in_low_set(problem: &Problem, multipliers: &[i128], i: usize) -> bool {
     match problem.items[i].label {
         Label::LookedUp => multipliers[i] > 0,
-        Label::PassedOver => multipliers[i] < problem.parameters.ceiling,
+        Label::PassedOver => multipliers[i] < problem.ceiling(i),
     }
 }
 

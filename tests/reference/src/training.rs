@@ -55,7 +55,9 @@ pub fn train(
     }
     let run = run(&problem);
     for i in 0..n {
-        multipliers[i] = run.multipliers[i].try_into().expect("a is at most c");
+        multipliers[i] = run.multipliers[i]
+            .try_into()
+            .expect("a is at most its ceiling");
         gradient[i] = narrow(run.gradient[i]);
     }
     Ok(Trained {

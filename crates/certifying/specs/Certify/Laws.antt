@@ -2,7 +2,6 @@
 use mathlib.Core.Path.{_≡_, refl, sym, _∙_, ap}
 use mathlib.Core.List.{List}
 use Prim.Native.Nat.{ℕ}
-use native.Mathlib.Nat.{le-refl}
 use native.Mathlib.Omega.{arith}
 use Rattle.training_file.specs.declared.parameters.Parameters.{Parameters}
 use Rattle.training_file.specs.declared.item.Item.{Item}
@@ -30,8 +29,7 @@ certified-distance file a = by-reading (reading file) refl
     by : (p : Parameters) (order : List ℕ) (items : List Item) → reading file ≡ accepted p order items → (j : Judgement) → judgement (problem p items) a ≡ j → CertifiedDistance (accepted p order items) a (certifyJudged (problem p items) a j)
     by p order items r (judged.Refused why) e = tt
     by p order items r judged.Feasible e =
-        bounded-distance (problem p items) (problem-gram p items) (labels-present file p order items r) (at a) (judgement-feasible (problem p items) a e .1) (p .ceiling)
-        (λ i l. le-refl (p .ceiling))
+        bounded-distance (problem p items) (problem-gram p items) (labels-present file p order items r) (at a) (judgement-feasible (problem p items) a e .1)
 
     by-reading : (r : Reading) → reading file ≡ r → CertifiedDistance r a (certifyRead r a)
     by-reading (refused why) e = tt

@@ -1,4 +1,4 @@
--- How large kernel values and gradients of a read file can be. Assumes nothing.
+-- How large kernel values, gradients and the gap of a read file can be. Assumes nothing.
 pub mod Read
 use mathlib.Core.Bool.{Bool}
 use mathlib.Core.Option.{Option, none, some}
@@ -7,7 +7,7 @@ use mathlib.Core.List.{List}
 use Prim.Native.Nat.{ℕ, _+_, _*_, _≤_, _<_}
 use native.Mathlib.Nat.{le-refl, le-trans, mul-le-mul, mul-le-mul-right}
 use native.Mathlib.Omega.{arith}
-use lib.IntN.{ℤ, pos, natAbs, _*ℤ_}
+use lib.IntN.{ℤ, pos, negsuc, natAbs, _-ℤ_, _*ℤ_}
 use lib.Signed.{ltZ}
 use Rattle.integers.specs.Bounds.{*ℤ-bound, -ℤ-bound, sum-bound}
 use Rattle.integers.specs.Extremum.{extreme, valueAt}
@@ -20,10 +20,10 @@ use Rattle.training_file.specs.Parameters.{ceilingMost, gridMost, recordsMost}
 use Rattle.training_file.specs.Layout.{featureCount, signedMost}
 use Rattle.reading.specs.Reading.{reading}
 use Rattle.reading.specs.Calls.{itemIn, itemsIn}
-use Rattle.dual_problem.specs.Size.{gradientMost, kernelMost, linearMost, termMost}
+use Rattle.dual_problem.specs.Size.{gapMost, gradientMost, kernelMost, linearMost, termMost}
 use Rattle.dual_problem.specs.Kernel.{largestKernel, largestLinear}
 use Rattle.dual_problem.specs.Kernel.Laws.{kernel-bound}
-use Rattle.dual_problem.specs.Problem.{Problem, sign, y, gradient, up, low, bUp, bLow}
+use Rattle.dual_problem.specs.Problem.{Problem, sign, y, gap, gradient, notBelowZero, up, low, bUp, bLow}
 use Rattle.dual_problem.specs.Items.{Listed, MultipliersListed, at, problemOf}
 
 sign-size : (l : Label) → natAbs (sign l) ≤ 1
@@ -76,3 +76,16 @@ module _ (file order : List ℕ) (n : ℕ) (p : Parameters) where
 
   pub b-up-size : (a : List ℕ) → MultipliersListed file order n p a → natAbs (bUp (problemOf file p) (at a)) ≤ gradientMost
   b-up-size a h = extreme-size ltZ ltZ-strict (up (problemOf file p) (at a)) a h
+
+  pub gap-size : (a : List ℕ) → MultipliersListed file order n p a → gap (bLow (problemOf file p) (at a)) (bUp (problemOf file p) (at a)) ≤ gapMost
+  gap-size a h = le-trans (by-sign (lower -ℤ upper)) (-ℤ-bound lower upper (b-low-size a h) (b-up-size a h))
+    where
+      lower : ℤ
+      lower = bLow (problemOf file p) (at a)
+
+      upper : ℤ
+      upper = bUp (problemOf file p) (at a)
+
+      by-sign : (z : ℤ) → notBelowZero z ≤ natAbs z
+      by-sign (pos k) = le-refl k
+      by-sign (negsuc k) = omega arith

@@ -1,5 +1,6 @@
 -- Laws of the problem: what a change of the multipliers does to the objective, which is all that the distance bound and the theorems
 -- on moves rest on; which places are in the up set and in the low set. Assumes nothing.
+pub mod Ceilings
 pub mod Same
 pub mod Sets
 pub mod Distance

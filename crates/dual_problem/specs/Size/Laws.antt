@@ -1,8 +1,8 @@
 -- The sizes as figures, which docs/RULES.md gives. Assumes nothing.
 use mathlib.Core.Path.{_≡_, refl}
-use Prim.Native.Nat.{_<_, _^_}
+use Prim.Native.Nat.{_*_, _/_, _<_, _^_}
 use lib.Dec.{lit<}
-use Rattle.dual_problem.specs.Size.{gradientMost, kernelMost, scoreMost}
+use Rattle.dual_problem.specs.Size.{ceilingsMost, gapMost, gradientMost, kernelMost, scoreMost}
 
 pub kernel-figure : kernelMost ≡ 68720001025
 kernel-figure = refl
@@ -16,3 +16,13 @@ score-figure = refl
 -- the largest of them fits a signed number of 64 bits
 pub score-fits : scoreMost < 2 ^ 63
 score-fits = lit< tt
+
+pub gap-figure : gapMost ≡ 2305860601435389952
+gap-figure = refl
+
+pub ceilings-figure : ceilingsMost ≡ 2 ^ 24
+ceilings-figure = refl
+
+-- the sum of the ceilings, times the gap's upper and times its lower 32 bits: by these a caller works the bound out in 64 bits
+pub bound-parts-fit : (ceilingsMost * (gapMost / 2 ^ 32) < 2 ^ 63) × (ceilingsMost * 2 ^ 32 < 2 ^ 63)
+bound-parts-fit = (lit< tt, lit< tt)

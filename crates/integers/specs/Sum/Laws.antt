@@ -1,4 +1,4 @@
--- Laws of `sum`: congruence, linearity, order, sums of sums, one place changed, all but one place zero. Assumes nothing.
+-- Laws of `sum`: congruence, linearity, order, sums of sums, one place changed, all but one place zero, ones. Assumes nothing.
 pub mod Places
 pub mod Balanced
 use mathlib.Core.Path.{_≡_, refl, sym, _∙_, ap}
@@ -104,3 +104,9 @@ pub sum-only : (n k : ℕ) (f : ℕ → ℤ) → k < n → ((i : ℕ) → i < n 
 sum-only n k f h e =
     sum-changed n k (λ i. pos 0) f h e ∙ ap (λ x. x +ℤ (f k -ℤ pos 0)) (sum-zero n (λ i. pos 0) (λ i l. refl))
     ∙ solve (f k ∷ []) (con (pos 0) ⊕ (x₀ ⊖ con (pos 0))) x₀ refl
+
+-- ---- ones
+pub sum-ones : (n : ℕ) → sum n (λ (i : ℕ). pos 1) ≡ pos n
+unfolding sum
+sum-ones zero = refl
+sum-ones (suc n) = ap (λ z. z +ℤ pos 1) (sum-ones n) ∙ ap pos (omega arith)

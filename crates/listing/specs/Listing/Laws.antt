@@ -19,6 +19,7 @@ use Rattle.reading.specs.Reading.Laws.{accepted-is}
 use Rattle.reading.specs.Calls.{itemIn, itemsIn, orderIn, fileAnswer, tableAfter}
 use Rattle.reading.specs.Reading.Laws.Accepted.{accepted-ranges, items-counted, items-most, numbers-within}
 use Rattle.dual_problem.specs.Problem.{problem}
+use Rattle.dual_problem.specs.Problem.Laws.Ceilings.{feasible-most}
 use Rattle.dual_problem.specs.Items.{Listed, at}
 use Rattle.dual_problem.specs.Items.Laws.Read.{Read, read-listed}
 use Rattle.smo.specs.Run.{training}
@@ -86,7 +87,7 @@ listing-fits file = by (reading file) refl
         let line : (i : ℕ) → i < length items → length (itemLine (shown i)) ≤ 14 =
         λ i l. item-length (shown i)
         (omega (arith, numbers-within file p order items a i (omega (arith, items-counted file p order items a)) .1))
-        (omega (arith, sound .bounded .feasible .within i l, accepted-ranges file p order items a .ceiling-greatest)) in
+        (omega (arith, feasible-most p (accepted-ranges file p order items a) items (at (o .multipliers)) (sound .bounded .feasible) i l)) in
         omega (arith, length-append (resultLine (trainedOf P o)) (itemsWithTotal (length items) shown), result-length (trainedOf P o), length-append (joined (length items) (λ i. itemLine (shown i))) (totalLine (totals (length items) shown)), joined-length (length items) (λ i. itemLine (shown i)) line, items-most file p order items a, total-length (totals (length items) shown))
 
 -- a buffer that starts with a listing holds it whole

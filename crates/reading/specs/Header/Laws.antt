@@ -12,7 +12,7 @@ use Rattle.training_file.specs.declared.refusal.Refusal.{Refusal}
 use Rattle.training_file.specs.declared.parameters.Parameters.{Parameters}
 use Rattle.training_file.specs.declared.parameters.ParametersAnswer.the-variants.{Allowed}
 use Rattle.training_file.specs.declared.parameters.ParametersAnswer.the-variants as parameters-answer
-use Rattle.training_file.specs.Layout.{firstRecord, kernelByte, recordsStored, spare, spareEnd}
+use Rattle.training_file.specs.Layout.{firstRecord, kernelByte, recordsStored, spare}
 use Rattle.training_file.specs.Parameters.{kernelAllowed, parametersAllowed, recordsMost}
 use Rattle.chain.specs.Stages.{WholeFile}
 use Rattle.reading.specs.Header.{headerAllowed, headerAnswer, lengthAllowed, parametersOf}
@@ -56,23 +56,19 @@ module _ (file : List ℕ) where
   unfolding headerAllowed
   spare-refused h = rw (ne-eqb (spare file) 0 h, and-false (leb (firstRecord file) (recordsStored file)))
 
-  pub spare-end-refused : (spareEnd file ≡ 0 → ⊥) → headerAllowed file ≡ false
-  unfolding headerAllowed
-  spare-end-refused h = rw (ne-eqb (spareEnd file) 0 h, and-false (leb (firstRecord file) (recordsStored file) && eqb (spare file) 0))
-
   pub kernel-refused : kernelAllowed (kernelByte file) ≡ false → headerAllowed file ≡ false
   unfolding headerAllowed
-  kernel-refused h = rw (h, and-false (leb (firstRecord file) (recordsStored file) && eqb (spare file) 0 && eqb (spareEnd file) 0))
+  kernel-refused h = rw (h, and-false (leb (firstRecord file) (recordsStored file) && eqb (spare file) 0))
 
-  pub parameters-decide : firstRecord file ≤ recordsStored file → spare file ≡ 0 → spareEnd file ≡ 0 → kernelAllowed (kernelByte file) ≡ true
+  pub parameters-decide : firstRecord file ≤ recordsStored file → spare file ≡ 0 → kernelAllowed (kernelByte file) ≡ true
       → headerAllowed file ≡ parametersAllowed (parametersOf file)
   unfolding headerAllowed
-  parameters-decide f s t k = rw (le-leb (firstRecord file) (recordsStored file) f, eq-eqb (spare file) 0 s, eq-eqb (spareEnd file) 0 t, k)
+  parameters-decide f s k = rw (le-leb (firstRecord file) (recordsStored file) f, eq-eqb (spare file) 0 s, k)
 
   pub header-parameters : headerAllowed file ≡ true → parametersAllowed (parametersOf file) ≡ true
   unfolding headerAllowed
   header-parameters h =
-      &&-both (leb (firstRecord file) (recordsStored file) && eqb (spare file) 0 && eqb (spareEnd file) 0 && kernelAllowed (kernelByte file))
+      &&-both (leb (firstRecord file) (recordsStored file) && eqb (spare file) 0 && kernelAllowed (kernelByte file))
       (parametersAllowed (parametersOf file)) h .1
 
   -- "A first record over m is refused with 2"
@@ -80,9 +76,8 @@ module _ (file : List ℕ) where
   unfolding headerAllowed
   header-first h =
       let few = leb (firstRecord file) (recordsStored file) in
-      let to-kernel = &&-left (few && eqb (spare file) 0 && eqb (spareEnd file) 0 && kernelAllowed (kernelByte file)) (parametersAllowed (parametersOf file)) h in
-      let to-end = &&-left (few && eqb (spare file) 0 && eqb (spareEnd file) 0) (kernelAllowed (kernelByte file)) to-kernel in
-      let to-spare = &&-left (few && eqb (spare file) 0) (eqb (spareEnd file) 0) to-end in
+      let to-kernel = &&-left (few && eqb (spare file) 0 && kernelAllowed (kernelByte file)) (parametersAllowed (parametersOf file)) h in
+      let to-spare = &&-left (few && eqb (spare file) 0) (kernelAllowed (kernelByte file)) to-kernel in
       leb-true (firstRecord file) (recordsStored file) (&&-left few (eqb (spare file) 0) to-spare)
 
 -- ---- what an answer says

@@ -230,9 +230,9 @@ module _ (P : Problem) (t : ℕ) where
       long-left = omega (arith, run-length limit a)
 
       -- .. and no feasible multipliers, on this grid or a finer one, are further below them than the bound, at whichever ending
-      pub run-bounded : LabelsPresent P → (c : ℕ) → ((i : ℕ) → i < P .count → P .ceiling i ≤ c)
-          → BoundedDistance P c (bLow P (at (run P t limit a .multipliers))) (bUp P (at (run P t limit a .multipliers))) (at (run P t limit a .multipliers))
-      run-bounded present c top = bounded-distance P gram present (at (run P t limit a .multipliers)) run-feasible c top
+      pub run-bounded : LabelsPresent P
+          → BoundedDistance P (bLow P (at (run P t limit a .multipliers))) (bUp P (at (run P t limit a .multipliers))) (at (run P t limit a .multipliers))
+      run-bounded present = bounded-distance P gram present (at (run P t limit a .multipliers)) run-feasible
 
       -- the ending means what it says
       pub run-means : OutcomeMeans P t limit (run P t limit a) (run P t limit a .ending)
@@ -285,8 +285,8 @@ module _ (P : Problem) (t : ℕ) where
           by-ending Spent m = (λ q. (m .1, m .2, m .3, m .4), λ q. refl)
 
       -- all of this
-      pub run-sound : LabelsPresent P → (c : ℕ) → ((i : ℕ) → i < P .count → P .ceiling i ≤ c) → Sound P t limit c (run P t limit a)
-      run-sound present c top = record { bounded = run-bounded present c top; in-limit = run-steps-limit limit a; means = run-means; stuck-exactly = stuck-ending-exactly }
+      pub run-sound : LabelsPresent P → Sound P t limit (run P t limit a)
+      run-sound present = record { bounded = run-bounded present; in-limit = run-steps-limit limit a; means = run-means; stuck-exactly = stuck-ending-exactly }
 
 -- ---- the start: "all multipliers 0"
 abbrev pub zeros : ℕ → List ℕ
@@ -295,11 +295,11 @@ zeros n = replicate n 0
 pub zeros-length : (n : ℕ) → length (zeros n) ≡ n
 zeros-length n = length-replicate {A = ℕ} n 0
 
--- what training leaves, where no ceiling is above c
-pub training-sound : (P : Problem) → Gram (P .count) (P .kernel) → LabelsPresent P → (t budget c : ℕ) → ((i : ℕ) → i < P .count → P .ceiling i ≤ c) → Sound P t budget c (training P t budget)
-training-sound P gram present t budget c top =
+-- what training leaves
+pub training-sound : (P : Problem) → Gram (P .count) (P .kernel) → LabelsPresent P → (t budget : ℕ) → Sound P t budget (training P t budget)
+training-sound P gram present t budget =
     run-sound P t gram budget (zeros (P .count)) (omega (arith, zeros-length (P .count)))
-    (zeros-feasible P (at (zeros (P .count))) (λ i l. getD-replicate {A = ℕ} (P .count) i 0 0 l)) present c top
+    (zeros-feasible P (at (zeros (P .count))) (λ i l. getD-replicate {A = ℕ} (P .count) i 0 0 l)) present
 
 pub training-length : (P : Problem) (t budget : ℕ) → length (training P t budget .multipliers) ≡ P .count
 training-length P t budget = run-length P t budget (zeros (P .count)) ∙ zeros-length (P .count)

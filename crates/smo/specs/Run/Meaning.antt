@@ -30,9 +30,9 @@ OutcomeMeans P t limit o = Means P t limit (o .steps) (bLow P (at (o .multiplier
 abbrev pub OutcomeGapPasses : Problem → ℕ → Outcome → Type 0
 OutcomeGapPasses P t o = GapPasses t (bLow P (at (o .multipliers))) (bUp P (at (o .multipliers)))
 
--- Demand 3, and what the ending means, of the outcome of a run that may take `limit` steps, where no ceiling is above c
-pub record Sound (P : Problem) (t limit c : ℕ) (o : Outcome) : Type 0 where
-  pub bounded : BoundedDistance P c (bLow P (at (o .multipliers))) (bUp P (at (o .multipliers))) (at (o .multipliers))
+-- Demand 3, and what the ending means, of the outcome of a run that may take `limit` steps
+pub record Sound (P : Problem) (t limit : ℕ) (o : Outcome) : Type 0 where
+  pub bounded : BoundedDistance P (bLow P (at (o .multipliers))) (bUp P (at (o .multipliers))) (at (o .multipliers))
   pub in-limit : o .steps ≤ limit
   pub means : OutcomeMeans P t limit o (o .ending)
   pub stuck-exactly : (o .ending ≡ Stuck) ↔ (OutcomeGapPasses P t o × NoMoveLowers P (at (o .multipliers)))

@@ -15,12 +15,13 @@ use Rattle.training_file.specs.declared.parameters.Parameters.{Parameters}
 use Rattle.training_file.specs.declared.item.Item.{Item}
 use Rattle.training_file.specs.declared.item.Label.{Label}
 use Rattle.training_file.specs.declared.item.Label.the-variants.{LookedUp, PassedOver}
-use Rattle.training_file.specs.Parameters.{ceilingMost}
+use Rattle.training_file.specs.Parameters.{Ranges}
 use Rattle.reading.specs.Reading.{reading}
 use Rattle.reading.specs.Calls.{itemIn, itemsIn}
 use Rattle.dual_problem.specs.Size.{gradientMost}
 use Rattle.dual_problem.specs.Problem.{Problem, Feasible, gradient}
 use Rattle.dual_problem.specs.Problem.Laws.{problem-gram}
+use Rattle.dual_problem.specs.Problem.Laws.Ceilings.{ceiling-range, feasible-most}
 use Rattle.dual_problem.specs.Items.{MultipliersListed, at, problemOf}
 use Rattle.dual_problem.specs.Items.Laws.{gradient-size}
 use Rattle.working_pair.specs.Step.{Candidate, amount, curvature, fall, rise, room, slope}
@@ -40,7 +41,7 @@ rise-higher : (l : Label) (a : ℕ) {c d : ℕ} → c ≤ d → rise l a c ≤ r
 rise-higher LookedUp a h = omega arith
 rise-higher PassedOver a h = omega arith
 
-module _ {file order : List ℕ} {n : ℕ} {p : Parameters} {a : List ℕ} {g : List ℤ} (state : State file order n p a g) (top : p .ceiling ≤ ceilingMost) {i j : ℕ} (pair : Candidate (problemOf file p) a i j) where
+module _ {file order : List ℕ} {n : ℕ} {p : Parameters} {a : List ℕ} {g : List ℤ} (state : State file order n p a g) (ranges : Ranges p) {i j : ℕ} (pair : Candidate (problemOf file p) a i j) where
   abbrev P : Problem
   P = problemOf file p
 
@@ -98,8 +99,8 @@ module _ {file order : List ℕ} {n : ℕ} {p : Parameters} {a : List ℕ} {g : 
       record {
         i-held = omega (arith, i-listed, state .listed .long);
         j-held = omega (arith, j-listed, state .listed .long);
-        falls = omega (arith, in-room, fall-higher (P .label i) (at a i) top);
-        rises = omega (arith, in-room, rise-higher (P .label j) (at a j) top);
+        falls = omega (arith, in-room, fall-higher (P .label i) (at a i) (ceiling-range p ranges (P .label i) .1));
+        rises = omega (arith, in-room, rise-higher (P .label j) (at a j) (ceiling-range p ranges (P .label j) .1));
       }
 
   pub step-updatable : Updatable file order n p g (amount P a i j)
@@ -109,7 +110,7 @@ module _ {file order : List ℕ} {n : ℕ} {p : Parameters} {a : List ℕ} {g : 
         used = state .listed .used;
         filled = state .filled;
         sized = kept-size;
-        small = omega (arith, in-room, room-bound P a i j (state .feasible .within i (pair .i-within)), top);
+        small = omega (arith, in-room, room-bound P a i j (state .feasible .within i (pair .i-within)), ceiling-range p ranges (P .label i) .1);
       }
 
   -- ---- what they give
@@ -135,7 +136,7 @@ module _ {file order : List ℕ} {n : ℕ} {p : Parameters} {a : List ℕ} {g : 
         used = state .listed .used;
         grid = state .listed .grid;
         long = omega (arith, state .listed .long, moved-length P a i j (amount P a i j));
-        small = λ k l. omega (arith, stepped-feasible .within k (omega (arith, all-items)), top);
+        small = λ k l. feasible-most p ranges items (at (stepped P a i j)) stepped-feasible k (omega (arith, all-items));
       }
 
   -- of the lists b and h that it left

@@ -3,7 +3,6 @@ use mathlib.Core.Path.{_≡_, refl, sym, _∙_, ap, subst}
 use mathlib.Core.Bool.{Bool, true, false, cond, _&&_}
 use mathlib.Core.List.{List, _++_}
 use Prim.Native.Nat.{ℕ, _≤_, _<_}
-use native.Mathlib.Nat.{le-refl}
 use native.Mathlib.Omega.{arith}
 use borrow.Author.Tests.{leb-true}
 use lib.Dec.{leb}
@@ -82,9 +81,9 @@ module _ (P : Problem) (l : List ℕ) (long : P .count ≤ length l) where
 -- ---- demand 3
 -- what training leaves, for a file that is accepted
 pub accepted-sound : (file : List ℕ) (p : Parameters) (order : List ℕ) (items : List Item) → reading file ≡ accepted p order items
-    → Sound (problem p items) (p .tolerance) (p .budget) (p .ceiling) (training (problem p items) (p .tolerance) (p .budget))
+    → Sound (problem p items) (p .tolerance) (p .budget) (training (problem p items) (p .tolerance) (p .budget))
 accepted-sound file p order items e =
-    training-sound (problem p items) (problem-gram p items) (labels-present file p order items e) (p .tolerance) (p .budget) (p .ceiling) (λ i l. le-refl (p .ceiling))
+    training-sound (problem p items) (problem-gram p items) (labels-present file p order items e) (p .tolerance) (p .budget)
 
 pub training-quality : (file a : List ℕ) (g : List ℤ) → TrainingQuality (reading file) (trainFile file a g .answer) (trainFile file a g .multipliers)
 training-quality file a g = by-reading (reading file) refl

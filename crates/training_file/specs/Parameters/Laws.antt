@@ -12,7 +12,7 @@ use Rattle.training_file.specs.declared.parameters.Kernel.the-variants.{
 use Rattle.training_file.specs.declared.parameters.KernelAnswer.the-variants.{Refused, Known}
 use Rattle.training_file.specs.declared.parameters.Parameters.{Parameters}
 use Rattle.training_file.specs.Layout.{featureCount}
-use Rattle.training_file.specs.Parameters.{Ranges, budgetMost, byteOfKernel, ceilingMost, gridMost, kernelAllowed, kernelOfByte, parametersAllowed, toleranceMost, within}
+use Rattle.training_file.specs.Parameters.{Ranges, budgetMost, byteOfKernel, ceilingMost, ceilingsAllowed, gridMost, kernelAllowed, kernelOfByte, parametersAllowed, toleranceMost, within}
 use Rattle.training_file.specs.Answers.{kernelAnswer}
 
 -- ---- a range
@@ -34,15 +34,15 @@ module _ (p : Parameters) where
   unfolding parametersAllowed
   grid-refused h = rw (h, and-false (within 1 featureCount (p .used)))
 
-  pub ceiling-refused : within 1 ceilingMost (p .ceiling) ≡ false → parametersAllowed p ≡ false
+  pub ceilings-refused : ceilingsAllowed (p .ceiling) (p .second) ≡ false → parametersAllowed p ≡ false
   unfolding parametersAllowed
-  ceiling-refused h = rw (h, and-false (within 1 featureCount (p .used) && within 1 gridMost (p .grid)))
+  ceilings-refused h = rw (h, and-false (within 1 featureCount (p .used) && within 1 gridMost (p .grid)))
 
   pub tolerance-refused : within 0 toleranceMost (p .tolerance) ≡ false → parametersAllowed p ≡ false
   unfolding parametersAllowed
-  tolerance-refused h = rw (h, and-false (within 1 featureCount (p .used) && within 1 gridMost (p .grid) && within 1 ceilingMost (p .ceiling)))
+  tolerance-refused h = rw (h, and-false (within 1 featureCount (p .used) && within 1 gridMost (p .grid) && ceilingsAllowed (p .ceiling) (p .second)))
 
-  module _ (u : within 1 featureCount (p .used) ≡ true) (g : within 1 gridMost (p .grid) ≡ true) (c : within 1 ceilingMost (p .ceiling) ≡ true) (t : within 0 toleranceMost (p .tolerance) ≡ true) where
+  module _ (u : within 1 featureCount (p .used) ≡ true) (g : within 1 gridMost (p .grid) ≡ true) (c : ceilingsAllowed (p .ceiling) (p .second) ≡ true) (t : within 0 toleranceMost (p .tolerance) ≡ true) where
     pub budget-decides : parametersAllowed p ≡ within 0 budgetMost (p .budget)
     unfolding parametersAllowed
     budget-decides = rw (u, g, c, t)
@@ -52,15 +52,17 @@ module _ (p : Parameters) where
   allowed-ranges h =
       let b = &&-both _ (within 0 budgetMost (p .budget)) h in
       let t = &&-both _ (within 0 toleranceMost (p .tolerance)) (b .0) in
-      let c = &&-both _ (within 1 ceilingMost (p .ceiling)) (t .0) in
-      let g = &&-both (within 1 featureCount (p .used)) (within 1 gridMost (p .grid)) (c .0) in
+      let both = &&-both _ (ceilingsAllowed (p .ceiling) (p .second)) (t .0) in
+      let c = &&-both (within 1 ceilingMost (p .ceiling)) (within 0 ceilingMost (p .second)) (both .1) in
+      let g = &&-both (within 1 featureCount (p .used)) (within 1 gridMost (p .grid)) (both .0) in
       record {
         used-least = within-both 1 featureCount (p .used) (g .0) .0;
         used-greatest = within-both 1 featureCount (p .used) (g .0) .1;
         grid-least = within-both 1 gridMost (p .grid) (g .1) .0;
         grid-greatest = within-both 1 gridMost (p .grid) (g .1) .1;
-        ceiling-least = within-both 1 ceilingMost (p .ceiling) (c .1) .0;
-        ceiling-greatest = within-both 1 ceilingMost (p .ceiling) (c .1) .1;
+        ceiling-least = within-both 1 ceilingMost (p .ceiling) (c .0) .0;
+        ceiling-greatest = within-both 1 ceilingMost (p .ceiling) (c .0) .1;
+        second-greatest = within-both 0 ceilingMost (p .second) (c .1) .1;
         tolerance-greatest = within-both 0 toleranceMost (p .tolerance) (t .1) .1;
         budget-greatest = within-both 0 budgetMost (p .budget) (b .1) .1;
       }

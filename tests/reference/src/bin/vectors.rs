@@ -6,13 +6,15 @@
 //! from 1, and then what the training program prints for it. `K.log` is the file
 //! alone. The last file takes 70,880 steps; all others together take a few thousand.
 
-use reference::examples::{full_chain, largest_totals, long_run, run_only, settled, three_records};
+use reference::examples::{
+    full_chain, largest_totals, long_run, run_only, second_ceilings, settled, three_records,
+};
 use reference::generate::chains::{with_next, HIGHEST_NEXT};
 use reference::generate::{
     broken, causes, damaged, every_chain, noise, small, sound, sound_with, with_relinked_spares,
     Random,
 };
-use reference::{file, listing, run, Refusal};
+use reference::{file, listing, run, Refusal, Run};
 use std::collections::BTreeMap;
 use std::path::Path;
 
@@ -49,6 +51,7 @@ fn files() -> Vec<Vec<u8>> {
     let mut files = settled();
     files.push(three_records());
     files.extend(run_only());
+    files.extend(second_ceilings());
     files.extend(thinned(causes(random)));
     files.extend((0..SOUND).map(|_| sound(random)));
     files.extend((0..LARGEST).map(|_| sound_with(random, file::MOST_RECORDS)));
@@ -173,4 +176,41 @@ fn print_shapes(files: &[Vec<u8>]) {
         .map(|(problem, run)| run.steps.len() * problem.items.len().pow(2))
         .max();
     println!("most steps x n x n of one file: {}", most.unwrap_or(0));
+    print_ceilings(&problems, &runs);
+}
+
+/// How many accepted files give a second ceiling, and in how many training leaves
+/// a multiplier at its label's ceiling where the other label's is higher.
+fn print_ceilings(problems: &[file::Problem], runs: &[Run]) {
+    let seconds = |asked: &dyn Fn(i128, i128) -> bool| {
+        let parameters = problems.iter().map(|problem| &problem.parameters);
+        let given = parameters.filter(|given| asked(given.second_ceiling, given.ceiling));
+        given.count()
+    };
+    println!(
+        "second ceiling: 0 {}, as c {}, below c {}, above c {}, 1 {}, 65,536 {}",
+        seconds(&|second, _| second == 0),
+        seconds(&|second, c| second == c),
+        seconds(&|second, c| (1..c).contains(&second)),
+        seconds(&|second, c| second > c),
+        seconds(&|second, _| second == 1),
+        seconds(&|second, _| second == i128::from(file::HIGHEST_CEILING))
+    );
+    let stopped = file::Label::BOTH.map(|label| {
+        let pairs = problems.iter().zip(runs);
+        let stops = pairs.filter(|(problem, run)| stopped(problem, run, label));
+        stops.count()
+    });
+    println!("stopped by the lower ceiling: looked up, passed over {stopped:?}");
+}
+
+fn stopped(problem: &file::Problem, run: &Run, label: file::Label) -> bool {
+    let own = problem.parameters.ceiling_of(label);
+    let mut items = problem.items.iter().zip(&run.multipliers);
+    problem
+        .parameters
+        .ceilings()
+        .iter()
+        .any(|&other| other > own)
+        && items.any(|(item, &a)| item.label == label && a == own)
 }

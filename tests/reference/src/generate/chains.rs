@@ -5,11 +5,14 @@ use super::draft::{Draft, LOOKED_UP};
 use super::random::Random;
 use super::with;
 use crate::examples::{by_turns, full_chain, p1};
-use crate::file::{number, record_start, HEADER_BYTES, MOST_RECORDS, RECORD_BYTES};
+use crate::file::{
+    number, record_start, HEADER_BYTES, HIGHEST_CEILING, MOST_RECORDS, RECORD_BYTES,
+};
 
 /// Where fields are, in the header and in a record.
 const FIRST_RECORD: usize = 2;
 const SPARE_OF_HEADER: usize = 6;
+const SECOND_CEILING: usize = 28;
 const LABEL: usize = 2;
 
 /// The highest next number that two bytes can say.
@@ -27,8 +30,14 @@ pub fn with_label(file: &[u8], record: usize, label: u8) -> Vec<u8> {
     with(file, record_start(record) + LABEL, &[label])
 }
 
-pub fn with_header_fault(file: &[u8]) -> Vec<u8> {
-    with(file, SPARE_OF_HEADER, &[1])
+/// The file with a spare byte of the header not 0, and with a second ceiling
+/// beyond its range.
+pub fn with_header_faults(file: &[u8]) -> [Vec<u8>; 2] {
+    let beyond = HIGHEST_CEILING as u32 + 1;
+    [
+        with(file, SPARE_OF_HEADER, &[1]),
+        with(file, SECOND_CEILING, &beyond.to_le_bytes()),
+    ]
 }
 
 /// m as the header has it.
@@ -72,7 +81,7 @@ pub fn every_chain(records: usize) -> Vec<Vec<u8>> {
 pub fn every_chain_beside_a_fault() -> Vec<Vec<u8>> {
     let with_faults = |file: &Vec<u8>| {
         let records = [1, 2].map(|record| with_label(file, record, 0));
-        std::iter::once(with_header_fault(file)).chain(records)
+        with_header_faults(file).into_iter().chain(records)
     };
     every_chain(2).iter().flat_map(with_faults).collect()
 }
@@ -116,11 +125,11 @@ fn broken_once(file: &[u8], chain: &[usize], random: &mut Random) -> Vec<u8> {
     with_next(file, own, next)
 }
 
-/// Another fault: a header byte, a label, one label alone, or a next number.
+/// Another fault: in the header, a label, one label alone, or a next number.
 fn spoilt(file: &[u8], chain: &[usize], random: &mut Random) -> Vec<u8> {
     let looked_up = |file: Vec<u8>, &record| with_label(&file, record, LOOKED_UP);
     match random.below(4) {
-        0 => with_header_fault(file),
+        0 => with_header_faults(file)[random.below(2) as usize].clone(),
         1 => with_label(file, random.pick(chain), 0),
         2 => chain.iter().fold(file.to_vec(), looked_up),
         _ => broken_once(file, chain, random),

@@ -142,6 +142,7 @@ impl Base {
             ceiling: 50,
             tolerance: 0,
             budget: 20,
+            second_ceiling: 70,
             items: labels.map(|label| (label, features())).to_vec(),
         };
         let spare = random.bytes(6 * RECORD_BYTES);
@@ -177,12 +178,14 @@ impl Base {
         let mut files = vec![at(2, &[7, 0]), at(2, &[255, 255]), at(2, &[4, 1])];
         files.extend([0, 17, 255].map(|d| at(4, &[d])));
         files.extend([2, 255].map(|kernel| at(5, &[kernel])));
-        files.extend([6, 7, 28, 29, 30, 31].map(|spare| at(spare, &[1])));
-        files.extend([6, 7, 28, 29, 30, 31].map(|spare| at(spare, &[128])));
+        files.extend([6, 7].map(|spare| at(spare, &[1])));
+        files.extend([6, 7].map(|spare| at(spare, &[128])));
         files.extend([0, 1_048_577, u32::MAX].map(|units: u32| at(8, &units.to_le_bytes())));
         files.extend([0, 65_537, u32::MAX].map(|ceiling: u32| at(12, &ceiling.to_le_bytes())));
         files.extend([1_000_000_000_001, 1 << 63, u64::MAX].map(|t: u64| at(16, &t.to_le_bytes())));
         files.extend([1_000_001, u32::MAX].map(|budget: u32| at(24, &budget.to_le_bytes())));
+        let seconds = [65_537, 65_792, 1 << 17, 1 << 24, 1 << 31, u32::MAX];
+        files.extend(seconds.map(|second: u32| at(28, &second.to_le_bytes())));
         files
     }
 

@@ -27,6 +27,8 @@ pub struct Draft {
     /// t.
     pub tolerance: u64,
     pub budget: u32,
+    /// The second ceiling, 0 for the same as c.
+    pub second_ceiling: u32,
     /// Label byte and features, in chain order.
     pub items: Vec<(u8, Vec<i8>)>,
 }
@@ -63,7 +65,7 @@ impl Draft {
         header.extend(self.ceiling.to_le_bytes());
         header.extend(self.tolerance.to_le_bytes());
         header.extend(self.budget.to_le_bytes());
-        header.extend([0; 4]);
+        header.extend(self.second_ceiling.to_le_bytes());
         header
     }
 

@@ -4,7 +4,8 @@
 //! Where items come in pairs, an item and its image with the other label, and both
 //! of each pair have one multiplier, the sum over the items changes its sign from
 //! a word to its image, and G from an item to its image. So the thresholds are
-//! opposite numbers, and a word that is its own image has a score of exactly 0.
+//! opposite numbers, if no multiplier is at one label's ceiling alone, and a word
+//! that is its own image has a score of exactly 0.
 
 use super::random::Random;
 use crate::file::Problem;

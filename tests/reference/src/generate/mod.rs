@@ -67,14 +67,16 @@ fn longest(random: &mut Random) -> Vec<u8> {
 }
 
 /// What must be met in each comparison, whatever the seed: the longest training
-/// and the longest chains, the settled examples and those run only, every cause
-/// of a refusal, every chain of one to three records, those of two also beside
-/// another fault, and small files with every damage of `every_damage`.
+/// and the longest chains, the settled examples, those run only and our own,
+/// every cause of a refusal, every chain of one to three records, those of two
+/// also beside another fault, and small files with every damage of
+/// `every_damage`.
 pub fn systematic(random: &mut Random) -> Vec<Vec<u8>> {
     let mut files = vec![examples::long_run().plain(), longest(random)];
     files.extend(chains::full_chains());
     files.extend(examples::settled());
     files.extend(examples::run_only());
+    files.extend(examples::second_ceilings());
     files.extend(causes(random).into_iter().map(|(_, file)| file));
     files.extend([1, 2, 3].into_iter().flat_map(every_chain));
     files.extend(chains::every_chain_beside_a_fault());

@@ -20,6 +20,10 @@ const WORK: u64 = 1_500_000;
 /// A few files may be longer.
 const LONG_WORK: u64 = 15_000_000;
 
+/// How many times the one ceiling the other is where they are far apart: "twenty
+/// to one" is what the second ceiling is there for.
+pub const FAR: i64 = 20;
+
 /// An accepted file of any shape.
 pub fn sound(random: &mut Random) -> Vec<u8> {
     if random.chance(1, 40) {
@@ -31,7 +35,7 @@ pub fn sound(random: &mut Random) -> Vec<u8> {
 
 /// An accepted file in which G and scores come near the largest that the ranges
 /// allow: the square kernel of sixteen features, one label at the end of the
-/// feature range and the other at the middle or the same end, a high ceiling.
+/// feature range and the other at the middle or the same end, high ceilings.
 fn heavy(random: &mut Random) -> Vec<u8> {
     let items = random.pick(&[8, 40, 128, MOST_RECORDS]);
     let far = random.pick(&[LOOKED_UP, PASSED_OVER]);
@@ -58,6 +62,7 @@ fn heavy(random: &mut Random) -> Vec<u8> {
         ceiling: (HIGHEST_CEILING - random.below(3)) as u32,
         tolerance: 0,
         budget: random.pick(&[0, 1, 3]),
+        second_ceiling: random.pick(&[0, HIGHEST_CEILING as u32, HIGHEST_CEILING as u32 - 1]),
         items,
     };
     laid_out(&draft, random)
@@ -106,11 +111,12 @@ pub fn small(random: &mut Random, items: usize) -> Vec<u8> {
 }
 
 /// An accepted file so small that every feasible list of multipliers can be
-/// tried: at most four items and a ceiling of at most 6.
+/// tried: at most four items and ceilings of at most 6, which mostly differ.
 pub fn tiny(random: &mut Random) -> Vec<u8> {
     let items = random.between(2, 4) as usize;
     let mut draft = draft(random, items);
     draft.ceiling = random.between(1, 6) as u32;
+    draft.second_ceiling = random.between(0, 6) as u32;
     draft.units = random.pick(&[1, 2, 3, 5, 10, 40, 300]);
     draft.tolerance = random.pick(&[0, 0, 0, 1, 3]);
     draft.budget = random.pick(&[0, 1, 2, 5, 1_000]);
@@ -141,8 +147,10 @@ fn draft(random: &mut Random, items: usize) -> Draft {
         ceiling: ceiling(random),
         tolerance: 0,
         budget: budget(random),
+        second_ceiling: 0,
         items,
     };
+    draft.second_ceiling = second_ceiling(random, draft.ceiling);
     draft.units = units(random, &draft);
     draft.tolerance = tolerance(random, draft.units);
     draft
@@ -164,6 +172,22 @@ fn ceiling(random: &mut Random) -> u32 {
         4..=6 => random.between(13, 1_000) as u32,
         _ => random.spread(HIGHEST_CEILING) as u32,
     }
+}
+
+/// Beside c: 0, which says the same as c, or c itself, both ends of the range,
+/// far below c and far above it, one off it, or like c from all over the range.
+fn second_ceiling(random: &mut Random, c: u32) -> u32 {
+    let drawn = match random.below(12) {
+        0..=2 => return 0,
+        3 => c,
+        4 => 1,
+        5 => HIGHEST_CEILING as u32,
+        6 | 7 => c / random.between(FAR, 2 * FAR) as u32,
+        8 | 9 => c * random.between(FAR, 2 * FAR) as u32,
+        10 => random.pick(&[c - 1, c + 1]),
+        _ => ceiling(random),
+    };
+    drawn.clamp(1, HIGHEST_CEILING as u32)
 }
 
 fn budget(random: &mut Random) -> u32 {
@@ -224,9 +248,9 @@ fn labelled_items(
     style: &Style,
 ) -> Vec<(u8, Vec<i8>)> {
     let mut labels = vec![LOOKED_UP, PASSED_OVER];
-    let looked_up_parts = random.between(1, 9) as u64;
+    let looked_up_parts = random.between(1, 19) as u64;
     labels.extend((2..count).map(|_| {
-        if random.chance(looked_up_parts, 10) {
+        if random.chance(looked_up_parts, 20) {
             LOOKED_UP
         } else {
             PASSED_OVER
@@ -316,7 +340,8 @@ fn tamed_to(file: Vec<u8>, work: u64) -> Vec<u8> {
         Err(_) => return file,
     };
     let items = problem.items.len() as u64;
-    let per_step = items * items + 4 * problem.parameters.ceiling as u64 + 50;
+    let [looked_up, passed_over] = problem.parameters.ceilings();
+    let per_step = items * items + 4 * looked_up.max(passed_over) as u64 + 50;
     let most = (work / per_step).max(1) as u32;
     if problem.parameters.budget <= most {
         return file;

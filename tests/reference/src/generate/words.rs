@@ -54,7 +54,8 @@ fn anywhere(problem: &Problem, random: &mut Random) -> Vec<i8> {
 /// can bring it. Wrong multipliers have no line, and leave the word as it is.
 fn beside_the_line(problem: &Problem, multipliers: &[u32], random: &mut Random) -> Vec<i8> {
     let mut word = sound(problem, random);
-    let judged = judge_count(problem, multipliers).and(judge_feasible(problem, multipliers));
+    let counted = judge_count(problem, multipliers);
+    let judged = counted.and_then(|()| judge_feasible(problem, multipliers));
     if judged.is_err() {
         return word;
     }

@@ -4,7 +4,7 @@
 use crate::examples::{by_turns, full_chain, p1, three_records};
 use crate::file::{number, read, record_start, MOST_RECORDS};
 use crate::generate::chains::{
-    chain, records, with_first, with_header_fault, with_label, with_next, HIGHEST_NEXT,
+    chain, records, with_first, with_header_faults, with_label, with_next, HIGHEST_NEXT,
 };
 use crate::generate::draft::{Draft, LOOKED_UP};
 use crate::generate::{any_file, every_chain, Random};
@@ -87,7 +87,9 @@ fn a_chain_fault_among_other_faults() {
         }
         let one_label = with_label(&broken, 2, LOOKED_UP);
         assert_breaks(&one_label, number, 3);
-        assert_eq!(read(&with_header_fault(&broken)).err(), Some(2.into()));
+        for faulty in with_header_faults(&broken) {
+            assert_eq!(read(&faulty).err(), Some(2.into()));
+        }
     }
 }
 

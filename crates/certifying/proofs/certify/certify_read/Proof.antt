@@ -1,10 +1,12 @@
 -- `certifying::certify::certify_read` meets its contract. Assumes nothing.
 use mathlib.Core.Path.{sym, _∙_, ap}
-use native.Mathlib.Nat.{le-trans}
 use native.Mathlib.Omega.{arith}
 use borrow.Author.Needs.{needs}
+use Rattle.reading.specs.Reading.{reading}
+use Rattle.reading.specs.Calls.{itemsIn}
 use Rattle.dual_problem.specs.Problem.{Problem}
-use Rattle.dual_problem.specs.Items.{problemOf}
+use Rattle.dual_problem.specs.Problem.Laws.Ceilings.{feasible-most}
+use Rattle.dual_problem.specs.Items.{at, problemOf}
 use Rattle.certifying.specs.declared.certify.Certified.the-variants.{Refused, Found}
 use Rattle.certifying.specs.Multipliers.{judgementRefusal}
 use Rattle.certifying.specs.Multipliers.Laws.{judgement-feasible}
@@ -42,7 +44,7 @@ find-thresholds-requires c κs =
       used = s .pre .1 .used-greatest;
       grid = s .pre .1 .grid-greatest;
       long = omega (arith, f .0, s .pre .0 .counted);
-      small = λ i l. le-trans (f .1 .within i (omega (arith, s .pre .0 .counted))) (s .pre .1 .ceiling-greatest);
+      small = λ i l. feasible-most (s .args .parameters) (s .pre .1) (itemsIn (reading (s .args .file .now))) (at (s .args .multipliers .now)) (f .1) i (omega (arith, s .pre .0 .counted));
     }
 
 returns-2 : tie.Need-returns-2

@@ -50,12 +50,13 @@ module _ (c : tie.After-shared-slice-known4 Inv-loop μ-loop) where
   i : ℕ
   i = c .before .before .before .before .loop .i
 
+  asked-is : c .before .ceiling .result ≡ ceilingOf (s .args .parameters) (c .before .before .fetch-label .result)
+  unfolding s
+  asked-is = c .before .ceiling .ensures
+
   ceiling-is : c .before .ceiling .result ≡ problemOf (s .args .file .now) (s .args .parameters) .ceiling i
   unfolding s i
-  ceiling-is =
-      c .before .ceiling .ensures
-      ∙ ap (ceilingOf (s .args .parameters))
-      (c .before .before .fetch-label .ensures)
+  ceiling-is = asked-is ∙ ap (ceilingOf (s .args .parameters)) (c .before .before .fetch-label .ensures)
 
 returns : tie.Need-returns Inv-loop μ-loop
 unfolding s i

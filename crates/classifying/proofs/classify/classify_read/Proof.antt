@@ -3,7 +3,6 @@ use mathlib.Core.Path.{_≡_, refl, sym, _∙_, ap, subst}
 use mathlib.Core.Bool.{Bool, cond}
 use mathlib.Core.List.{List}
 use Prim.Native.Nat.{_≤_}
-use native.Mathlib.Nat.{le-trans}
 use lib.IntN.{natAbs}
 use native.Mathlib.Omega.{arith}
 use borrow.Author.Tests.{eq-eqb, ne-eqb, not-true, not-false}
@@ -14,6 +13,7 @@ use Rattle.training_file.specs.declared.item.Item.{Item}
 use Rattle.training_file.specs.Refusal.{refusal}
 use Rattle.reading.specs.Reading.{reading}
 use Rattle.reading.specs.Calls.{itemsIn}
+use Rattle.dual_problem.specs.Problem.Laws.Ceilings.{feasible-most}
 use Rattle.dual_problem.specs.Items.{MultipliersListed, at, problemOf}
 use Rattle.dual_problem.specs.Items.Laws.{b-low-size, b-up-size}
 use Rattle.dual_problem.specs.Size.{gradientMost}
@@ -83,7 +83,7 @@ module _ (c : tie.After-word-allowed) where
         used = s .pre .1 .used-greatest;
         grid = s .pre .1 .grid-greatest;
         long = omega (arith, f .0, s .pre .0 .counted);
-        small = λ i l. le-trans (f .1 .within i (omega (arith, s .pre .0 .counted))) (s .pre .1 .ceiling-greatest);
+        small = λ i l. feasible-most (s .args .parameters) (s .pre .1) (items s) (at (s .args .multipliers .now)) (f .1) i (omega (arith, s .pre .0 .counted));
       }
 
 returns-3 : tie.Need-returns-3

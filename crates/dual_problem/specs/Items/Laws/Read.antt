@@ -1,14 +1,18 @@
 -- What a file that was accepted gives the layers above: the table serves, the parameters are in their ranges. Assumes nothing.
 use mathlib.Core.Path.{_≡_, refl, sym, _∙_, ap, subst}
+use mathlib.Core.Logic.{_↔_}
 use mathlib.Core.List.{List}
 use Prim.Native.Nat.{ℕ, _≤_}
-use native.Mathlib.Nat.{le-trans}
+use native.Mathlib.Nat.{le-trans, mul-le-mul-right}
 use native.Mathlib.Omega.{arith}
 use lib.IntN.{pos, natAbs}
 use lib.ListN.{length, getD}
+use Rattle.integers.specs.Bounds.{sum-bound}
+use Rattle.integers.specs.Sum.{sum}
 use Rattle.training_file.specs.declared.parameters.Parameters.{Parameters}
 use Rattle.training_file.specs.declared.item.Item.{Item}
-use Rattle.training_file.specs.Parameters.{Ranges, recordsMost}
+use Rattle.training_file.specs.declared.item.Label.{Label}
+use Rattle.training_file.specs.Parameters.{Ranges, ceilingMost, recordsMost}
 use Rattle.training_file.specs.Layout.{signedMost}
 use Rattle.reading.specs.declared.reader.FileAnswer.the-variants.{Accepted}
 use Rattle.reading.specs.Reading.{Reading, refused, accepted, reading}
@@ -16,7 +20,9 @@ use Rattle.reading.specs.Reading.Laws.{accepted-is}
 use Rattle.reading.specs.Calls.{itemIn, itemsIn, orderIn, fileAnswer, tableAfter}
 use Rattle.reading.specs.Calls.Laws.{table-serves}
 use Rattle.reading.specs.Reading.Laws.Accepted.{label-at, accepted-ranges, items-counted, items-most, item-features-most}
-use Rattle.dual_problem.specs.Problem.{LabelsPresent, problem}
+use Rattle.dual_problem.specs.Problem.{EqualCeilings, LabelsPresent, ceilingOf, problem}
+use Rattle.dual_problem.specs.Problem.Laws.Ceilings.{ceiling-range}
+use Rattle.dual_problem.specs.Size.{ceilingsMost}
 use Rattle.dual_problem.specs.Items.{Listed}
 
 -- the file is read as these parameters, and n items
@@ -46,7 +52,25 @@ pub labels-present : (file : List ℕ) (p : Parameters) (order : List ℕ) (item
 labels-present file p order items e label =
     let a = accepted-is file p order items e in
     let k = label-at file p order items a label in
-    (k .0, k .1, k .2, accepted-ranges file p order items a .ceiling-least)
+    (k .0, k .1, k .2, ceiling-range p (accepted-ranges file p order items a) (itemIn items (k .0) .label) .0)
+
+-- all items have the ceiling c exactly where both labels' ceilings are c
+pub equal-ceilings-exactly : (file : List ℕ) (p : Parameters) (order : List ℕ) (items : List Item) → reading file ≡ accepted p order items
+    → (c : ℕ) → EqualCeilings (problem p items) c ↔ ((label : Label) → ceilingOf p label ≡ c)
+equal-ceilings-exactly file p order items e c = (
+  (λ equal label.
+      let k = label-at file p order items (accepted-is file p order items e) label in
+      ap (ceilingOf p) (sym (k .2)) ∙ equal (k .0) (k .1)),
+  (λ equal i l. equal (itemIn items i .label)),
+)
+
+-- how large the sum of all items' ceilings can be
+pub ceilings-size : (file : List ℕ) (p : Parameters) (order : List ℕ) (items : List Item) → reading file ≡ accepted p order items
+    → natAbs (sum (length items) (λ i. pos (problem p items .ceiling i))) ≤ ceilingsMost
+ceilings-size file p order items e =
+    let a = accepted-is file p order items e in
+    le-trans (sum-bound (length items) (λ i. pos (problem p items .ceiling i)) (λ i l. ceiling-range p (accepted-ranges file p order items a) (itemIn items i .label) .1))
+    (mul-le-mul-right ceilingMost (items-most file p order items a))
 
 module _ {file : List ℕ} {p : Parameters} {n : ℕ} (r : Read file p n) where
   pub read-ranges : Ranges p

@@ -1,30 +1,31 @@
 -- The distance bound of demand 3: no feasible multipliers, on the grid or on a finer one, have an objective below that of feasible
--- multipliers a by more than 2 × gap × c × ⌊n/2⌋. Of the kernel it uses only that its values are a Gram form. Assumes nothing.
+-- multipliers a by more than the gap times the sum of the items' ceilings, nor, where these are all c, by more than 2 × gap × c × ⌊n/2⌋. Of
+-- the kernel it uses only that its values are a Gram form. Assumes nothing.
 use mathlib.Core.Path.{_≡_, refl, sym, _∙_, ap, subst}
 use mathlib.Core.Logic.{_↔_}
 use mathlib.Core.Bool.{true}
 use mathlib.Core.List.{[], _∷_}
 use Prim.Native.Nat.{ℕ, _*_, _/_, _≤_, _<_}
-use native.Mathlib.Nat.{le-trans, mul-le-mul-left, lt-of-mul-lt-mul-left}
+use native.Mathlib.Nat.{mul-le-mul-left, lt-of-mul-lt-mul-left}
 use native.Mathlib.Omega.{arith}
 use borrow.Author.Tests.{lt-ltb}
 use lib.IntN.{ℤ, pos, negsuc, negℤ, natAbs, _+ℤ_, _-ℤ_, _*ℤ_}
 use lib.Dec.{ltb}
 use lib.Signed.{_≤ℤ_, ≤ℤ-refl}
-use Rattle.integers.specs.Solver.{con, ⊝_, _⊕_, _⊗_, _⊖_, x₀, x₁, x₂, x₃, x₄, x₅, x₆, solve}
+use Rattle.integers.specs.Solver.{con, ⊝_, _⊕_, _⊗_, _⊖_, x₀, x₁, x₂, x₃, x₄, x₅, solve}
 use Rattle.integers.specs.Linear.{integer, ≡-to-parts, +ℤ-parts, posPart, negPart, -ℤ-parts, negℤ-parts, *ℤ-parts, natAbs-parts, one-part}
 use Rattle.integers.specs.Bounds.{natAbs-*ℤ}
-use Rattle.integers.specs.Order.{positivity, certificate}
+use Rattle.integers.specs.Order.{≤ℤ-reflexive, ≤ℤ-trans, positivity, certificate}
 use Rattle.integers.specs.Sum.{sum}
 use Rattle.integers.specs.Sum.Laws.{sum-cong, sum-*ℤ, sum--ℤ}
 use Rattle.integers.specs.Gram.{Gram, quadratic}
 use Rattle.integers.specs.Gram.Laws.{quadratic-nonneg}
 use Rattle.integers.specs.Extremum.Laws.{least-bounds, greatest-bounds}
-use Rattle.integers.specs.Sum.Laws.Balanced.{balanced-bound}
+use Rattle.integers.specs.Sum.Laws.Balanced.{balanced-bound, positives, positives-half, positives-sum}
 use Rattle.training_file.specs.declared.item.Label.{Label}
 use Rattle.training_file.specs.declared.item.Label.the-variants.{LookedUp, PassedOver}
 use Rattle.training_file.specs.Item.{opposite}
-use Rattle.dual_problem.specs.Problem.{BoundedDistance, LabelsPresent, doubleSum, finerObjective, Problem, Feasible, Finer, WithinDistance, sign, y, gradient, up, low, inUp, inLow, bUp, bLow, objective, gap, bound, notBelowZero}
+use Rattle.dual_problem.specs.Problem.{BoundedDistance, EqualCeilings, LabelsPresent, doubleSum, finerObjective, Problem, Feasible, Finer, WithinDistance, sign, y, gradient, up, low, inUp, inLow, bUp, bLow, objective, gap, notBelowZero}
 use Rattle.dual_problem.specs.Problem.Laws.{change, expansion}
 use Rattle.dual_problem.specs.Problem.Laws.Sets.{opposite-sign, thresholds-attained}
 
@@ -74,26 +75,45 @@ module _ (P : Problem) (gram : Gram (P .count) (P .kernel)) (a : ℕ → ℕ) (f
         ∙ (λ d. finer .balanced d -ℤ (sum-*ℤ (P .count) (pos m) (λ i. pos (a i) *ℤ y P i) ∙ ap (λ z. pos m *ℤ z) (feasible .balanced)) d)
         ∙ solve (pos m ∷ []) (con (pos 0) ⊖ x₀ ⊗ con (pos 0)) (con (pos 0)) refl
 
-    -- the gradient along the change
-    gradient-bound : (c : ℕ) → ((i : ℕ) → i < P .count → P .ceiling i ≤ c) → negℤ (pos (gap (bLow P a) (bUp P a)) *ℤ pos (m * c * (P .count / 2))) ≤ℤ sum (P .count) (λ i. change P m a v i *ℤ gradient P a i)
+    -- the change at a place is at most m times the place's ceiling in size
+    change-within : (i : ℕ) → i < P .count → natAbs (change P m a v i) ≤ m * P .ceiling i
     unfolding rise
-    gradient-bound c top =
-        balanced-bound (bUp P a) (bLow P a) (P .count) (m * c) (change P m a v) (gradient P a) change-balanced
-        (λ i l. le-trans (change-size m (a i) (P .ceiling i) (v i) (feasible .within i l) (finer .within i l) (P .label i)) (mul-le-mul-left m (top i l)))
+    change-within i l = change-size m (a i) (P .ceiling i) (v i) (feasible .within i l) (finer .within i l) (P .label i)
+
+    -- twice the sum of the positive changes
+    abbrev twice : ℤ
+    twice = pos 2 *ℤ positives (P .count) (change P m a v)
+
+    -- it is at most m times the sum of all ceilings, and where these are all c, at most m times 2 × c × ⌊n/2⌋
+    twice-sum : twice ≤ℤ (pos m *ℤ sum (P .count) (λ i. pos (P .ceiling i)))
+    twice-sum =
+        ≤ℤ-trans (positives-sum (P .count) (change P m a v) change-balanced (λ i. m * P .ceiling i) change-within)
+        (≤ℤ-reflexive (sum-*ℤ (P .count) (pos m) (λ i. pos (P .ceiling i))))
+
+    twice-half : (c : ℕ) → EqualCeilings P c → twice ≤ℤ (pos m *ℤ pos (2 * c * (P .count / 2)))
+    twice-half c equal =
+        ≤ℤ-trans (positives-half (P .count) (change P m a v) change-balanced (λ i. m * P .ceiling i) change-within (m * c) (λ i l. ap (λ k. m * k) (equal i l)))
+        (≤ℤ-reflexive (solve (pos m ∷ pos c ∷ pos (P .count / 2) ∷ []) (con (pos 2) ⊗ (x₀ ⊗ x₁) ⊗ x₂) (x₀ ⊗ (con (pos 2) ⊗ x₁ ⊗ x₂)) refl))
+
+    -- the gradient along the change
+    gradient-bound : (k : ℤ) → twice ≤ℤ (pos m *ℤ k) → negℤ (pos (gap (bLow P a) (bUp P a)) *ℤ (pos m *ℤ k)) ≤ℤ (pos 2 *ℤ sum (P .count) (λ i. change P m a v i *ℤ gradient P a i))
+    unfolding rise
+    gradient-bound k few =
+        balanced-bound (bUp P a) (bLow P a) (P .count) (change P m a v) (gradient P a) change-balanced
         (λ i l h. least-bounds (P .count) (up P a) (gradient P a) l (change-up m (a i) (P .ceiling i) (v i) (feasible .within i l) (finer .within i l) (P .label i) h))
         (λ i l h. greatest-bounds (P .count) (low P a) (gradient P a) l (change-low m (a i) (P .ceiling i) (v i) (feasible .within i l) (finer .within i l) (P .label i) h))
-        (gap (bLow P a) (bUp P a)) (gap-bounds (bLow P a) (bUp P a))
+        (gap (bLow P a) (bUp P a)) (gap-bounds (bLow P a) (bUp P a)) (pos m *ℤ k) few
 
-  -- demand 3, where no ceiling is above c
-  pub distance-bound : (c : ℕ) → ((i : ℕ) → i < P .count → P .ceiling i ≤ c) → WithinDistance (bound (gap (bLow P a) (bUp P a)) c (P .count)) P a
-  unfolding WithinDistance
-  distance-bound c top m positive v finer =
-      let q : pos 0 ≤ℤ quadratic (P .count) (P .kernel) (change P m a v) = quadratic-nonneg gram (change P m a v) in
-      let w = gradient-bound m v finer c top in
-      subst (λ z. (pos (m * m) *ℤ objective P a) ≤ℤ (z +ℤ pos (m * m) *ℤ pos (bound (gap (bLow P a) (bUp P a)) c (P .count)))) (sym (expansion P gram m a v))
-      (certificate (objective P a ∷ quadratic (P .count) (P .kernel) (change P m a v) ∷ sum (P .count) (λ i. change P m a v i *ℤ gradient P a i) ∷ pos m ∷ pos (gap (bLow P a) (bUp P a)) ∷ pos c ∷ pos (P .count / 2) ∷ [])
-      (x₃ ⊗ x₃ ⊗ x₀) (x₃ ⊗ x₃ ⊗ x₀ ⊕ (x₁ ⊕ con (pos 2) ⊗ x₃ ⊗ x₂) ⊕ x₃ ⊗ x₃ ⊗ (con (pos 2) ⊗ x₄ ⊗ x₅ ⊗ x₆))
-      (x₁ ⊕ con (pos 2) ⊗ x₃ ⊗ (x₂ ⊖ ⊝ (x₄ ⊗ (x₃ ⊗ x₅ ⊗ x₆)))) refl (search positivity))
+    -- gap × k, where twice the sum of the positive changes is at most m × k
+    finer-bound : (k : ℤ) → twice ≤ℤ (pos m *ℤ k)
+        → (pos (m * m) *ℤ objective P a) ≤ℤ (finerObjective P m v +ℤ pos (m * m) *ℤ (pos (gap (bLow P a) (bUp P a)) *ℤ k))
+    finer-bound k few =
+        let q : pos 0 ≤ℤ quadratic (P .count) (P .kernel) (change P m a v) = quadratic-nonneg gram (change P m a v) in
+        let w = gradient-bound k few in
+        subst (λ z. (pos (m * m) *ℤ objective P a) ≤ℤ (z +ℤ pos (m * m) *ℤ (pos (gap (bLow P a) (bUp P a)) *ℤ k))) (sym (expansion P gram m a v))
+        (certificate (objective P a ∷ quadratic (P .count) (P .kernel) (change P m a v) ∷ sum (P .count) (λ i. change P m a v i *ℤ gradient P a i) ∷ pos m ∷ pos (gap (bLow P a) (bUp P a)) ∷ k ∷ [])
+        (x₃ ⊗ x₃ ⊗ x₀) (x₃ ⊗ x₃ ⊗ x₀ ⊕ (x₁ ⊕ con (pos 2) ⊗ x₃ ⊗ x₂) ⊕ x₃ ⊗ x₃ ⊗ (x₄ ⊗ x₅))
+        (x₁ ⊕ x₃ ⊗ (con (pos 2) ⊗ x₂ ⊖ ⊝ (x₄ ⊗ (x₃ ⊗ x₅)))) refl (search positivity))
 
 -- ---- "m' = 1 is the grid itself"
 pub finer-one : (P : Problem) (v : ℕ → ℕ) → Finer P 1 v ↔ Feasible P v
@@ -107,20 +127,31 @@ unfolding finerObjective objective
 finer-one-objective P v =
     solve (doubleSum P v ∷ pos (P .grid) ∷ sum (P .count) (λ i. pos (v i)) ∷ []) (x₀ ⊖ con (pos 2) ⊗ x₁ ⊗ con (pos 1) ⊗ x₂) (x₀ ⊖ con (pos 2) ⊗ x₁ ⊗ x₂) refl
 
-this-grid : (P : Problem) (a : ℕ → ℕ) (d : ℕ) → WithinDistance d P a → (v : ℕ → ℕ) → Feasible P v → objective P a ≤ℤ (objective P v +ℤ pos d)
-unfolding WithinDistance
-this-grid P a d within v feasible =
-    let h = within 1 (omega arith) v (finer-one P v .1 feasible) in
-    let e = finer-one-objective P v in
-    omega (arith, integer, ≡-to-parts e, *ℤ-parts (pos 1) (objective P a), *ℤ-parts (pos 1) (pos d), +ℤ-parts (finerObjective P 1 v) (pos 1 *ℤ pos d), +ℤ-parts (objective P v) (pos d))
+-- what holds on every finer grid holds on the grid itself
+every-grid : (P : Problem) (a : ℕ → ℕ) (d : ℤ) → ((m : ℕ) → 1 ≤ m → (v : ℕ → ℕ) → Finer P m v → (pos (m * m) *ℤ objective P a) ≤ℤ (finerObjective P m v +ℤ pos (m * m) *ℤ d))
+    → WithinDistance d P a
+every-grid P a d finer-grids = record { this-grid = this-grid; finer-grids = finer-grids }
+  where
+    this-grid : (v : ℕ → ℕ) → Feasible P v → objective P a ≤ℤ (objective P v +ℤ d)
+    this-grid v feasible =
+        let h = finer-grids 1 (omega arith) v (finer-one P v .1 feasible) in
+        let e = finer-one-objective P v in
+        omega (arith, integer, ≡-to-parts e, *ℤ-parts (pos 1) (objective P a), *ℤ-parts (pos 1) d, +ℤ-parts (finerObjective P 1 v) (pos 1 *ℤ d), +ℤ-parts (objective P v) d)
+
+-- gap × k, where twice the sum of the positive changes is at most m × k on every grid
+within-distance : (P : Problem) → Gram (P .count) (P .kernel) → (a : ℕ → ℕ) → Feasible P a → (k : ℤ)
+    → ((m : ℕ) (v : ℕ → ℕ) → Finer P m v → (pos 2 *ℤ positives (P .count) (change P m a v)) ≤ℤ (pos m *ℤ k)) → WithinDistance (pos (gap (bLow P a) (bUp P a)) *ℤ k) P a
+within-distance P gram a feasible k few = every-grid P a (pos (gap (bLow P a) (bUp P a)) *ℤ k) (λ m positive v finer. finer-bound P gram a feasible m v finer k (few m v finer))
 
 -- ---- demand 3
-pub bounded-distance : (P : Problem) → Gram (P .count) (P .kernel) → LabelsPresent P → (a : ℕ → ℕ) → Feasible P a → (c : ℕ) → ((i : ℕ) → i < P .count → P .ceiling i ≤ c) → BoundedDistance P c (bLow P a) (bUp P a) a
-bounded-distance P gram present a feasible c top =
-    let within = distance-bound P gram a feasible c top in
+pub bounded-distance : (P : Problem) → Gram (P .count) (P .kernel) → LabelsPresent P → (a : ℕ → ℕ) → Feasible P a → BoundedDistance P (bLow P a) (bUp P a) a
+bounded-distance P gram present a feasible =
     record {
       feasible = feasible;
       thresholds = thresholds-attained P a feasible present;
-      this-grid = this-grid P a (bound (gap (bLow P a) (bUp P a)) c (P .count)) within;
-      finer-grids = within;
+      always = within-distance P gram a feasible (sum (P .count) (λ i. pos (P .ceiling i))) (twice-sum P gram a feasible);
+      equal-ceilings =
+          λ c equal. subst (λ d. WithinDistance d P a)
+          (solve (pos (gap (bLow P a) (bUp P a)) ∷ pos c ∷ pos (P .count / 2) ∷ []) (x₀ ⊗ (con (pos 2) ⊗ x₁ ⊗ x₂)) (con (pos 2) ⊗ x₀ ⊗ x₁ ⊗ x₂) refl)
+          (within-distance P gram a feasible (pos (2 * c * (P .count / 2))) (λ m v finer. twice-half P gram a feasible m v finer c equal));
     }

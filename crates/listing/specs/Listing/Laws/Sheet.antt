@@ -12,6 +12,7 @@ use Rattle.reading.specs.Reading.{accepted, reading, refused}
 use Rattle.reading.specs.Reading.Laws.{accepted-is}
 use Rattle.reading.specs.Reading.Laws.Accepted.{accepted-ranges, items-most}
 use Rattle.dual_problem.specs.Problem.{problem}
+use Rattle.dual_problem.specs.Problem.Laws.Ceilings.{feasible-most}
 use Rattle.dual_problem.specs.Items.{at}
 use Rattle.smo.specs.Run.{training}
 use Rattle.smo.specs.Answer.{trainedOf}
@@ -39,4 +40,4 @@ accepted-adds-up file p order items e =
     let feasible = accepted-sound file p order items e .bounded .feasible in
     subst (λ r. AddsUp (listingOf r)) (sym e)
     (adds-up (trainedOf (problem p items) outcome) (length items) shown (items-most file p order items a)
-    (λ i l. omega (arith, feasible .within i l, accepted-ranges file p order items a .ceiling-greatest)) (sums-equal (length items) shown (feasible .balanced)))
+    (λ i l. omega (arith, feasible-most p (accepted-ranges file p order items a) items (at (outcome .multipliers)) feasible i l)) (sums-equal (length items) shown (feasible .balanced)))

@@ -4,10 +4,10 @@ use Prim.Native.Nat.{_≤_, _<_}
 use native.Mathlib.Omega.{arith}
 use borrow.Author.Needs.{needs}
 use Rattle.training_file.specs.declared.parameters.ParametersAnswer.the-variants.{Refused}
-use Rattle.training_file.specs.Layout.{featuresInUse, firstRecord, kernelByte, recordsStored, spare, spareEnd}
+use Rattle.training_file.specs.Layout.{featuresInUse, firstRecord, kernelByte, recordsStored, secondUnits, spare}
 use Rattle.training_file.specs.Parameters.Laws.{kernel-known, kernel-refused}
 use Rattle.training_file.specs.Answers.{kernelRefusal, parametersAnswer}
-use Rattle.reading.specs.Header.Laws.{first-refused, kernel-refused as header-refused, parameters-decide, spare-end-refused, spare-refused}
+use Rattle.reading.specs.Header.Laws.{first-refused, kernel-refused as header-refused, parameters-decide, spare-refused}
 use Rattle.reading.proofs.header.read_parameters.Statement.{statement}
 use Rattle.reading.proofs.header.read_parameters.Tie as tie
 
@@ -33,15 +33,6 @@ returns-2 c =
     let held : spare file ≡ 0 → ⊥ = rw (c .before .u16-at3 .ensures) at (c .if2 .taken) in
     rw (spare-refused file held)
 
-u32-at-requires : tie.Need-u32-at-requires
-u32-at-requires c κs = search needs
-
-returns-3 : tie.Need-returns-3
-returns-3 c =
-    let file = c .before .before .before .before .before .before .before .before .args .file .now in
-    let held : spareEnd file ≡ 0 → ⊥ = rw (c .before .u32-at .ensures) at (c .if3 .taken) in
-    rw (spare-end-refused file held)
-
 shared-slice-read-from-byte : tie.Need-shared-slice-read-from-byte
 shared-slice-read-from-byte c = search needs
 
@@ -57,10 +48,10 @@ enum-told c = search needs
 refusal-requires : tie.Need-refusal-requires
 refusal-requires c κs = search needs
 
-returns-4 : tie.Need-returns-4
-returns-4 c =
+returns-3 : tie.Need-returns-3
+returns-3 c =
     let tests = c .before .before .before .before .before in
-    let file = tests .before .before .before .before .before .before .before .before .args .file .now in
+    let file = tests .before .before .before .before .before .before .args .file .now in
     let answered = c .before .before .before .from-byte .ensures in
     let fails = kernel-refused (kernelByte file) _ (sym answered ∙ c .before .enum-told .given .1) in
     rw (header-refused file fails) (ap Refused (c .refusal .ensures ∙ ap kernelRefusal answered ∙ (rw fails)))
@@ -70,6 +61,9 @@ shared-slice-read-new c = search needs
 
 cast-new : tie.Need-cast-new
 cast-new c = omega (arith, c .shared-slice-known3 .given 4)
+
+u32-at-requires : tie.Need-u32-at-requires
+u32-at-requires c κs = search needs
 
 u32-at-requires-2 : tie.Need-u32-at-requires-2
 u32-at-requires-2 c κs = search needs
@@ -86,25 +80,26 @@ u32-at-requires-4 c κs = search needs
 new-requires : tie.Need-new-requires
 new-requires c κs = search needs
 
-returns-5 : tie.Need-returns-5
-returns-5 c =
-    let known = c .before .before .before .before .before .before .before in
+returns-4 : tie.Need-returns-4
+returns-4 c =
+    let known = c .before .before .before .before .before .before .before .before in
     let tests = known .before .before .before .before in
-    let firsts = tests .before .before .before .before in
+    let firsts = tests .before .before in
     let file = firsts .before .before .before .before .args .file .now in
     let first : firstRecord file ≤ recordsStored file = rw (firsts .before .u16-at2 .ensures, firsts .before .before .u16-at .ensures) at (firsts .if1 .left) in
+    let second : c .before .before .before .u32-at3 .result ≡ secondUnits file = c .before .before .before .u32-at3 .ensures in
     let kernel = kernel-known (kernelByte file) _ (sym (known .before .before .from-byte .ensures) ∙ known .answer .given .1) in
     rw
     (parameters-decide file first
-    (sym (tests .before .before .before .u16-at3 .ensures) ∙ tests .before .before .if2 .left)
-    (sym (tests .before .u32-at .ensures) ∙ tests .if3 .left)
+    (sym (tests .before .u16-at3 .ensures) ∙ tests .if2 .left)
     (kernel .0))
     (c .new .ensures
     ∙ λ i. parametersAnswer (record {
       used = featuresInUse file;
       kernel = sym (kernel .1) i;
-      grid = c .before .before .before .before .u32-at2 .ensures i;
-      ceiling = c .before .before .before .u32-at3 .ensures i;
+      grid = c .before .before .before .before .before .u32-at .ensures i;
+      ceiling = c .before .before .before .before .u32-at2 .ensures i;
+      second = second i;
       tolerance = c .before .before .u64-at .ensures i;
       budget = c .before .u32-at4 .ensures i;
     }))
@@ -118,19 +113,18 @@ read-parameters-spec =
     returns
     u16-at-requires-3
     returns-2
-    u32-at-requires
-    returns-3
     shared-slice-read-from-byte
     from-byte-requires
     enum-known-answer
     enum-told
     refusal-requires
-    returns-4
+    returns-3
     shared-slice-read-new
     cast-new
+    u32-at-requires
     u32-at-requires-2
     u32-at-requires-3
     u64-at-requires
     u32-at-requires-4
     new-requires
-    returns-5)
+    returns-4)

@@ -107,6 +107,7 @@ module _ (f g : List ℕ) (a : SameChained f g) where
         field4 12 (omega arith),
         field8 16 (omega arith),
         field4 24 (omega arith),
+        field4 28 (omega arith),
       )
 
   length-same : lengthAllowed f ≡ lengthAllowed g
@@ -121,7 +122,6 @@ module _ (f g : List ℕ) (a : SameChained f g) where
         field2 0 (omega arith),
         field2 2 (omega arith),
         field2 6 (omega arith),
-        field4 28 (omega arith),
         a .header 5 (omega arith) (omega arith),
       )
 

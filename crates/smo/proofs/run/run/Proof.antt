@@ -189,7 +189,7 @@ take-step-requires : tie.Need-take-step-requires Inv-loop μ-loop
 unfolding s P a g
 take-step-requires c κs =
     let d = c .before .before .before .before .before .before in
-    (running d .state, s d .pre .1 .ceiling-greatest, moving (c .before .before .before) .1)
+    (running d .state, s d .pre .1, moving (c .before .before .before) .1)
 
 -- ---- after the step
 module _ (c : tie.After-gradient Inv-loop μ-loop) where
@@ -216,7 +216,7 @@ loop-again c =
     let stepped-is = c .before .before .before .take-step .ensures in
     record {
       within = omega (arith, below c);
-      state = step-state (running e .state) (s e .pre .1 .ceiling-greatest) (move .1) (stepped-is .0) (stepped-is .1);
+      state = step-state (running e .state) (s e .pre .1) (move .1) (stepped-is .0) (stepped-is .1);
       so-far = loop-steps (P e) (t e) (s e .args .limit) (k e) (a e) (running e .so-far) (below c) (move .0) ∙ ap (λ b. moreSteps (k e + 1) (runOf (P e) (t e) (s e .args .limit - (k e + 1)) b)) (sym (stepped-is .0));
       long = ap length (stepped-is .0) ∙ moved-length (P e) (a e) _ _ _ ∙ running e .long;
       filled =

@@ -39,9 +39,13 @@ module _ (c : tie.After-ceiling) where
   unfolding s P
   label-is = c .before .fetch-label .ensures
 
+  asked-is : c .ceiling .result ≡ ceilingOf (s .args .parameters) (c .before .fetch-label .result)
+  unfolding s
+  asked-is = c .ceiling .ensures
+
   ceiling-is : c .ceiling .result ≡ P .ceiling (s .args .place)
-  unfolding s P
-  ceiling-is = c .ceiling .ensures ∙ ap (ceilingOf (s .args .parameters)) label-is
+  unfolding P
+  ceiling-is = asked-is ∙ ap (ceilingOf (s .args .parameters)) label-is
 
 returns : tie.Need-returns
 unfolding s P

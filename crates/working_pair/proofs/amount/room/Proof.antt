@@ -13,6 +13,10 @@ opposite-requires c κs = search needs
 ceiling-requires : tie.Need-ceiling-requires
 ceiling-requires c κs = search needs
 
+-- the ceiling asked for the first item is that of its label
+first-asked : (c : tie.After-ceiling) → let x = c .before .before .args in c .ceiling .result ≡ ceilingOf (x .parameters) (x .x-label)
+first-asked c = c .ceiling .ensures
+
 can-rise-requires : tie.Need-can-rise-requires
 can-rise-requires c κs = search needs
 
@@ -37,7 +41,7 @@ cast-result c = search needs
 -- how far the first one falls, and the second one rises
 falls : (c : tie.After-can-rise)
     → let x = c .before .before .before .args in c .can-rise .result ≡ fall (x .x-label) (x .x-multiplier) (ceilingOf (x .parameters) (x .x-label))
-falls c = c .can-rise .ensures ∙ λ i. rise (c .before .before .opposite .ensures i) (c .before .before .before .args .x-multiplier) (c .before .ceiling .ensures i)
+falls c = c .can-rise .ensures ∙ λ i. rise (c .before .before .opposite .ensures i) (c .before .before .before .args .x-multiplier) (first-asked (c .before) i)
 
 returns : tie.Need-returns
 returns c =

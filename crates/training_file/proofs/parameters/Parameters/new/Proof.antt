@@ -3,26 +3,27 @@ use mathlib.Core.Path.{_≡_, sym, _∙_}
 use borrow.Author.Needs.{needs}
 use borrow.Author.Tests.{not-true, not-false}
 use Rattle.training_file.specs.Parameters.{parametersAllowed}
-use Rattle.training_file.specs.Parameters.Laws.{budget-decides, ceiling-refused, grid-refused, tolerance-refused, used-refused}
+use Rattle.training_file.specs.Parameters.Laws.{budget-decides, ceilings-refused, grid-refused, tolerance-refused, used-refused}
 use Rattle.training_file.proofs.parameters.Parameters.new.Statement.{statement}
 use Rattle.training_file.proofs.parameters.Parameters.new.Tie as tie
 
 -- once the other fields are within their ranges, the budget's test is the parameters'
-decided : (c : tie.After-within5) → parametersAllowed (record {
+decided : (c : tie.After-within4) → parametersAllowed (record {
   used = c .before .before .before .before .before .before .before .before .before .args .used;
   kernel = c .before .before .before .before .before .before .before .before .before .args .kernel;
   grid = c .before .before .before .before .before .before .before .before .before .args .grid;
   ceiling = c .before .before .before .before .before .before .before .before .before .args .ceiling;
+  second = c .before .before .before .before .before .before .before .before .before .args .second;
   tolerance = c .before .before .before .before .before .before .before .before .before .args .tolerance;
   budget = c .before .before .before .before .before .before .before .before .before .args .budget;
-}) ≡ c .within5 .result
+}) ≡ c .within4 .result
 decided c =
     budget-decides _
     (sym (c .before .before .before .before .before .before .before .before .within .ensures) ∙ not-false _ (c .before .before .before .before .before .before .before .if1 .left))
     (sym (c .before .before .before .before .before .before .within2 .ensures) ∙ not-false _ (c .before .before .before .before .before .if2 .left))
-    (sym (c .before .before .before .before .within3 .ensures) ∙ not-false _ (c .before .before .before .if3 .left))
-    (sym (c .before .before .within4 .ensures) ∙ not-false _ (c .before .if4 .left))
-    ∙ sym (c .within5 .ensures)
+    (sym (c .before .before .before .before .ceilings-within .ensures) ∙ not-false _ (c .before .before .before .if3 .left))
+    (sym (c .before .before .within3 .ensures) ∙ not-false _ (c .before .if4 .left))
+    ∙ sym (c .within4 .ensures)
 
 within-requires : tie.Need-within-requires
 within-requires c κs = search needs
@@ -42,32 +43,26 @@ within-requires-2 c κs = search needs
 returns-2 : tie.Need-returns-2
 returns-2 c = rw (grid-refused _ (sym (c .before .within2 .ensures) ∙ not-true _ (c .if2 .taken)))
 
+ceilings-within-requires : tie.Need-ceilings-within-requires
+ceilings-within-requires c κs = search needs
+
+returns-3 : tie.Need-returns-3
+returns-3 c = rw (ceilings-refused _ (sym (c .before .ceilings-within .ensures) ∙ not-true _ (c .if3 .taken)))
+
+within-requires-3 : tie.Need-within-requires-3
+within-requires-3 c κs = search needs
+
+returns-4 : tie.Need-returns-4
+returns-4 c = rw (tolerance-refused _ (sym (c .before .within3 .ensures) ∙ not-true _ (c .if4 .taken)))
+
 cast-within-3 : tie.Need-cast-within-3
 cast-within-3 c = search needs
 
 cast-within-4 : tie.Need-cast-within-4
 cast-within-4 c = search needs
 
-within-requires-3 : tie.Need-within-requires-3
-within-requires-3 c κs = search needs
-
-returns-3 : tie.Need-returns-3
-returns-3 c = rw (ceiling-refused _ (sym (c .before .within3 .ensures) ∙ not-true _ (c .if3 .taken)))
-
 within-requires-4 : tie.Need-within-requires-4
 within-requires-4 c κs = search needs
-
-returns-4 : tie.Need-returns-4
-returns-4 c = rw (tolerance-refused _ (sym (c .before .within4 .ensures) ∙ not-true _ (c .if4 .taken)))
-
-cast-within-5 : tie.Need-cast-within-5
-cast-within-5 c = search needs
-
-cast-within-6 : tie.Need-cast-within-6
-cast-within-6 c = search needs
-
-within-requires-5 : tie.Need-within-requires-5
-within-requires-5 c κs = search needs
 
 returns-5 : tie.Need-returns-5
 returns-5 c = rw (decided (c .before) ∙ not-true _ (c .if5 .taken))
@@ -85,14 +80,12 @@ new-spec =
     cast-within-2
     within-requires-2
     returns-2
+    ceilings-within-requires
+    returns-3
+    within-requires-3
+    returns-4
     cast-within-3
     cast-within-4
-    within-requires-3
-    returns-3
     within-requires-4
-    returns-4
-    cast-within-5
-    cast-within-6
-    within-requires-5
     returns-5
     returns-6)
