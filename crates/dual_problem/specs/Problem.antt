@@ -105,15 +105,15 @@ notBelowZero (negsuc n) = 0
 abbrev pub gap : ℤ → ℤ → ℕ
 gap lower upper = notBelowZero (lower -ℤ upper)
 
--- Document 02, request (f): "at most the gap times the sum of all items' ceilings"
+-- Document 02, request (f): "The distance from the best objective is now at most the gap times the sum of all items' ceilings"
 abbrev pub bound : ℕ → Problem → ℤ
 bound g P = pos g *ℤ sum (P .count) (λ i. pos (P .ceiling i))
 
--- "where both labels' ceilings are equal, demand 3's bound stays": all items then have one ceiling, and the bound is "2 times the gap, times
--- the ceiling, times half the item count rounded down."
+-- "where both labels' ceilings are equal": all items have the ceiling c
 abbrev pub EqualCeilings : Problem → ℕ → Type 0
 EqualCeilings P c = (i : ℕ) → i < P .count → P .ceiling i ≡ c
 
+-- "demand 3's bound stays": "2 times the gap, times the ceiling, times half the item count rounded down."
 abbrev pub equalBound : ℕ → ℕ → ℕ → ℤ
 equalBound g c n = pos (2 * g * c * (n / 2))
 
@@ -133,7 +133,7 @@ pub record BoundedDistance (P : Problem) (lower upper : ℤ) (a : ℕ → ℕ) :
 
 -- ---- the problem of a training file
 
--- Document 02, request (f): "The field c serves label +1", and of the ceiling for label −1 "0 means the same as c"
+-- the ceiling of a label. Document 02, request (f): "The field c serves label +1", and of the ceiling for label −1 "0 means the same as c"
 abbrev pub ceilingOf : Parameters → Label → ℕ
 ceilingOf p LookedUp = p .ceiling
 ceilingOf p PassedOver = cond (eqb (p .second) 0) (p .ceiling) (p .second)

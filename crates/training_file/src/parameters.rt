@@ -146,7 +146,15 @@ impl Parameters {
         budget: u32,
     ) -> ParametersAnswer
         ensures { λ r.
-            ⌜ r ≡ parametersAnswer (record { used = used; kernel = kernel; grid = grid; ceiling = ceiling; second = second; tolerance = tolerance; budget = budget }) ⌝ }
+            ⌜ r ≡ parametersAnswer (record {
+              used = used;
+              kernel = kernel;
+              grid = grid;
+              ceiling = ceiling;
+              second = second;
+              tolerance = tolerance;
+              budget = budget;
+            }) ⌝ }
     {
         let refused = ParametersAnswer::Refused(Refusal::HEADER);
         if !within(

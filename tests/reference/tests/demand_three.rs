@@ -133,8 +133,8 @@ fn what_certifying_accepts_keeps_the_bound() {
     assert!(2 * differing > FILES, "the files must show the case");
 }
 
-/// Where the ceilings differ, demand 3's bound need not hold with either of them:
-/// the files are such that a bound too small shows.
+/// Where the ceilings differ, demand 3's bound need not hold with the lower one,
+/// c in some files and the second in others: a bound too small shows in them.
 #[test]
 fn demand_three_of_one_ceiling_fails_with_two() {
     let mut fails = [0; 2];

@@ -1,4 +1,5 @@
--- What a file that was accepted gives the layers above: the table serves, the parameters are in their ranges. Assumes nothing.
+-- What a file that was accepted gives the layers above: the table serves, the parameters are in their ranges, and what its ceilings are.
+-- Assumes nothing.
 use mathlib.Core.Path.{_≡_, refl, sym, _∙_, ap, subst}
 use mathlib.Core.Logic.{_↔_}
 use mathlib.Core.List.{List}
