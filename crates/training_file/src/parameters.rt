@@ -1,7 +1,7 @@
 // The parameters of training, judged as they are made. The least and the greatest value of each field stand here alone.
 
 ghost use mathlib.Core.Path.{_≡_};
-ghost use Rattle.training_file.specs.Parameters.{byteOfKernel, ceilingsAllowed};
+ghost use Rattle.training_file.specs.Parameters.{byteOfKernel, ceilingsAllowed, parametersAllowed};
 ghost use Rattle.training_file.specs.Answers.{kernelAnswer, kernelRefusal, parametersAnswer, parametersRefusal};
 use super::item::Item;
 use super::range::within;
@@ -135,6 +135,41 @@ impl Parameters {
         )
     }
 
+    // Whether each field is within its range.
+    fn allowed(self) -> bool
+        ensures { λ r. ⌜ r ≡ parametersAllowed self ⌝ }
+    {
+        if !within(
+            Parameters::MIN_USED as u64,
+            Parameters::MAX_USED as u64,
+            self.used as u64,
+        ) {
+            return false;
+        }
+        if !within(
+            Parameters::MIN_GRID as u64,
+            Parameters::MAX_GRID as u64,
+            self.grid as u64,
+        ) {
+            return false;
+        }
+        if !Parameters::ceilings_within(self.ceiling, self.second) {
+            return false;
+        }
+        if !within(
+            Parameters::MIN_TOLERANCE,
+            Parameters::MAX_TOLERANCE,
+            self.tolerance,
+        ) {
+            return false;
+        }
+        within(
+            Parameters::MIN_BUDGET as u64,
+            Parameters::MAX_BUDGET as u64,
+            self.budget as u64,
+        )
+    }
+
     // The parameters, where each is within its range.
     pub fn new(
         used: usize,
@@ -156,39 +191,7 @@ impl Parameters {
               budget = budget;
             }) ⌝ }
     {
-        let refused = ParametersAnswer::Refused(Refusal::HEADER);
-        if !within(
-            Parameters::MIN_USED as u64,
-            Parameters::MAX_USED as u64,
-            used as u64,
-        ) {
-            return refused;
-        }
-        if !within(
-            Parameters::MIN_GRID as u64,
-            Parameters::MAX_GRID as u64,
-            grid as u64,
-        ) {
-            return refused;
-        }
-        if !Parameters::ceilings_within(ceiling, second) {
-            return refused;
-        }
-        if !within(
-            Parameters::MIN_TOLERANCE,
-            Parameters::MAX_TOLERANCE,
-            tolerance,
-        ) {
-            return refused;
-        }
-        if !within(
-            Parameters::MIN_BUDGET as u64,
-            Parameters::MAX_BUDGET as u64,
-            budget as u64,
-        ) {
-            return refused;
-        }
-        ParametersAnswer::Allowed(Parameters {
+        let parameters = Parameters {
             used,
             kernel,
             grid,
@@ -196,6 +199,10 @@ impl Parameters {
             second,
             tolerance,
             budget,
-        })
+        };
+        if !parameters.allowed() {
+            return ParametersAnswer::Refused(Refusal::HEADER);
+        }
+        ParametersAnswer::Allowed(parameters)
     }
 }

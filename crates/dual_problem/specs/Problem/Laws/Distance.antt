@@ -127,21 +127,25 @@ unfolding finerObjective objective
 finer-one-objective P v =
     solve (doubleSum P v ∷ pos (P .grid) ∷ sum (P .count) (λ i. pos (v i)) ∷ []) (x₀ ⊖ con (pos 2) ⊗ x₁ ⊗ con (pos 1) ⊗ x₂) (x₀ ⊖ con (pos 2) ⊗ x₁ ⊗ x₂) refl
 
--- what holds on every finer grid holds on the grid itself
-every-grid : (P : Problem) (a : ℕ → ℕ) (d : ℤ) → ((m : ℕ) → 1 ≤ m → (v : ℕ → ℕ) → Finer P m v → (pos (m * m) *ℤ objective P a) ≤ℤ (finerObjective P m v +ℤ pos (m * m) *ℤ d))
-    → WithinDistance d P a
-every-grid P a d finer-grids = record { this-grid = this-grid; finer-grids = finer-grids }
-  where
-    this-grid : (v : ℕ → ℕ) → Feasible P v → objective P a ≤ℤ (objective P v +ℤ d)
-    this-grid v feasible =
-        let h = finer-grids 1 (omega arith) v (finer-one P v .1 feasible) in
-        let e = finer-one-objective P v in
-        omega (arith, integer, ≡-to-parts e, *ℤ-parts (pos 1) (objective P a), *ℤ-parts (pos 1) d, +ℤ-parts (finerObjective P 1 v) (pos 1 *ℤ d), +ℤ-parts (objective P v) d)
+-- ---- gap × k, where twice the sum of the positive changes is at most m × k on every grid
+module _ (P : Problem) (gram : Gram (P .count) (P .kernel)) (a : ℕ → ℕ) (feasible : Feasible P a) (k : ℤ)
+    (few : (m : ℕ) (v : ℕ → ℕ) → Finer P m v → (pos 2 *ℤ positives (P .count) (change P m a v)) ≤ℤ (pos m *ℤ k)) where
+  distance : ℤ
+  distance = pos (gap (bLow P a) (bUp P a)) *ℤ k
 
--- gap × k, where twice the sum of the positive changes is at most m × k on every grid
-within-distance : (P : Problem) → Gram (P .count) (P .kernel) → (a : ℕ → ℕ) → Feasible P a → (k : ℤ)
-    → ((m : ℕ) (v : ℕ → ℕ) → Finer P m v → (pos 2 *ℤ positives (P .count) (change P m a v)) ≤ℤ (pos m *ℤ k)) → WithinDistance (pos (gap (bLow P a) (bUp P a)) *ℤ k) P a
-within-distance P gram a feasible k few = every-grid P a (pos (gap (bLow P a) (bUp P a)) *ℤ k) (λ m positive v finer. finer-bound P gram a feasible m v finer k (few m v finer))
+  finer-grids : (m : ℕ) (v : ℕ → ℕ) → Finer P m v → (pos (m * m) *ℤ objective P a) ≤ℤ (finerObjective P m v +ℤ pos (m * m) *ℤ distance)
+  unfolding distance
+  finer-grids m v finer = finer-bound P gram a feasible m v finer k (few m v finer)
+
+  this-grid : (v : ℕ → ℕ) → Feasible P v → objective P a ≤ℤ (objective P v +ℤ distance)
+  this-grid v reached =
+      let h = finer-grids 1 v (finer-one P v .1 reached) in
+      let e = finer-one-objective P v in
+      omega (arith, integer, ≡-to-parts e, *ℤ-parts (pos 1) (objective P a), *ℤ-parts (pos 1) distance, +ℤ-parts (finerObjective P 1 v) (pos 1 *ℤ distance), +ℤ-parts (objective P v) distance)
+
+  within-distance : WithinDistance (pos (gap (bLow P a) (bUp P a)) *ℤ k) P a
+  unfolding distance
+  within-distance = record { this-grid = this-grid; finer-grids = λ m positive v finer. finer-grids m v finer }
 
 -- ---- demand 3
 pub bounded-distance : (P : Problem) → Gram (P .count) (P .kernel) → LabelsPresent P → (a : ℕ → ℕ) → Feasible P a → BoundedDistance P (bLow P a) (bUp P a) a
