@@ -82,10 +82,13 @@ typedef struct {
 /* The kernel that a file names. With p the sum of the products of the features
  * in use, of two items or of an item and a word, their kernel value is
  *
- * LINEAR  p
- * SQUARE  (p + 1) * (p + 1) */
+ * LINEAR   p
+ * SQUARE   (p + 1) * (p + 1)
+ * OVERLAP  the sum, over the features in use, of the smaller of the two values,
+ *          each first raised by 127: how much the two share */
 #define LOOKAHEAD_LINEAR 0
 #define LOOKAHEAD_SQUARE 1
+#define LOOKAHEAD_OVERLAP 2
 
 /* Two numbers that the calls below speak of. With a[i] the multiplier of item
  * i, y[i] 1 where it was looked up and -1 where it was passed over, K[i][j]
@@ -137,10 +140,10 @@ extern "C" {
  * LOOKAHEAD_MOST_ITEMS places holds the whole order of every file.
  *
  * After number 0: *items is n, *used the number of features in use, 1 to 16,
- * and *kernel LOOKAHEAD_LINEAR or LOOKAHEAD_SQUARE. The first n places of
- * order, or all of them where there are fewer, hold the numbers of the records
- * on the chain, in the chain's order, and later places what they held. Records
- * are numbered from 1.
+ * and *kernel LOOKAHEAD_LINEAR, LOOKAHEAD_SQUARE or LOOKAHEAD_OVERLAP. The
+ * first n places of order, or all of them where there are fewer, hold the
+ * numbers of the records on the chain, in the chain's order, and later places
+ * what they held. Records are numbered from 1.
  *
  * Refusals: 1 to 5 and 16. All four lent things are then as they were. */
 lookahead_answer lookahead_read(const uint8_t *file, size_t file_len,

@@ -25,6 +25,7 @@ pub const LOOKAHEAD_REFUSED_FEATURE: u8 = 9;
 
 pub const LOOKAHEAD_LINEAR: u8 = 0;
 pub const LOOKAHEAD_SQUARE: u8 = 1;
+pub const LOOKAHEAD_OVERLAP: u8 = 2;
 
 pub const LOOKAHEAD_CONVERGED: u8 = 1;
 pub const LOOKAHEAD_STUCK: u8 = 2;

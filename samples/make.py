@@ -75,6 +75,18 @@ def rarely_looked_up(random, looked_up, passed_over, noise):
     return items
 
 
+def middling(random, count, noise):
+    """Labelled words of a class that looks up words of middling rarity: common
+    words it knows, and the rarest, mostly names, it passes over."""
+    items = []
+    while len(items) < count:
+        features, _ = met_word(random)
+        rarity, seen = features[0], features[3]
+        strange = 20 - abs(rarity) - seen // 2 + random.between(-noise, noise)
+        items.append((1 if strange > 0 else 2, features))
+    return items
+
+
 def coarser(items):
     """The same words on a coarser scale, which keeps the square kernel small."""
     return [(label, [feature // 5 for feature in features]) for label, features in items]
@@ -137,6 +149,7 @@ def samples():
     spent = log(random, words(random, 90, 0, 60), 20, 0, UNITS, 2_000, UNITS // 1000, 40)
     fine = log(random, finer(words(random, 60, 10, 10)), 10, 0, UNITS, 1_000, UNITS // 20, 5_000)
     rare = log(random, rarely_looked_up(random, 10, 200, 50), 20, 0, UNITS, 4_000, UNITS // 20, 20_000)
+    overlap = log(random, finer(middling(random, 80, 4)), 20, 2, UNITS, 3_000, UNITS // 20, 5_000)
     return {
         "example": example(),
         "clean": clean,
@@ -149,6 +162,7 @@ def samples():
         "cut": clean[:700],
         "rare": rare,
         "ceilings": with_second_ceiling(rare, 200),
+        "overlap": overlap,
     }
 
 

@@ -1,7 +1,7 @@
 """Writes document 01's settled examples P1 to P12 for crates/settled_test: what it is run on, and the results settled there, of P12's
-second half those of document 02, (e). E1 to E3 are our own examples of that request, K1 to K4 of request (k), and F1 to F6 of request (f).
-Three words follow that document 01 has run only: W1 to W3, with the highest feature, the lowest, and one below it. A refusal is its number
-and its record, 0 where it carries none.
+second half those of document 02, (e). E1 to E3 are our own examples of that request, K1 to K4 of request (k), F1 to F6 of request (f), and
+I1 to I7 of request (i). Three words follow that document 01 has run only: W1 to W3, with the highest feature, the lowest, and one below it.
+A refusal is its number and its record, 0 where it carries none.
 
 Nothing is worked out here. What the document leaves out of a result, as the thresholds of P4, is as the theorem `settled` has it
 (crates/lookahead/specs/Settled.antt).
@@ -38,6 +38,9 @@ TAIL_INTO_CYCLE = file([(9, 10), (2, -10), (2, 10)], follows=[2, 3, 2], S=1, c=2
 SECOND_BELOW = plus_minus(second=3)
 SECOND_ABOVE = plus_minus(c=3, second=100)
 TWO_PASSED_OVER = file([(1, 1), (2, -1), (2, -1)], second=2)
+OVERLAP = plus_minus(kernel=2)
+OVERLAP_AT_THE_ENDS = file([(1, 127), (2, -127)], kernel=2, S=127)
+OVERLAP_BOTH_ONE = file([(1, 1), (2, 1)], kernel=2, c=7)
 
 # Name, kind, file, multipliers, feature; the result. Training is lent 9s, so that what it leaves alone shows.
 CASES = [
@@ -69,6 +72,14 @@ CASES = [
     ("F5", CERTIFY, SECOND_BELOW, (4, 4, 0), 0, "refused 7 0"),
     ("F5", CERTIFY, SECOND_ABOVE, (4, 4, 0), 0, "refused 7 0"),
     ("F6", TRAIN, TWO_PASSED_OVER, (9, 9, 9), 0, "converged 2, thresholds -2 -2, multipliers 4 2 2"),
+    ("I1", TRAIN, OVERLAP, (9, 9, 9), 0, "converged 1, thresholds 10 10, multipliers 10 10 9"),
+    ("I2", TRAIN, OVERLAP_AT_THE_ENDS, (9, 9, 9), 0, "converged 1, thresholds 127 127, multipliers 1 1 9"),
+    ("I3", TRAIN, OVERLAP_BOTH_ONE, (9, 9, 9), 0, "converged 1, thresholds -10 10, multipliers 7 7 9"),
+    ("I4", CERTIFY, OVERLAP, (5, 5, 0), 0, "thresholds 10 0"),
+    ("I5", CLASSIFY, OVERLAP, (10, 10, 0), 3, "looked up"),
+    ("I5", CLASSIFY, OVERLAP, (10, 10, 0), 0, "undecided"),
+    ("I6", CLASSIFY, OVERLAP_AT_THE_ENDS, (1, 1, 0), -127, "passed over"),
+    ("I7", TRAIN, plus_minus(kernel=3), (9, 9, 9), 0, "refused 2 0, multipliers 9 9 9"),
     ("W1", CLASSIFY, plus_minus(), (5, 5, 0), 127, "looked up"),
     ("W2", CLASSIFY, plus_minus(), (5, 5, 0), -127, "passed over"),
     ("W3", CLASSIFY, plus_minus(), (5, 5, 0), -128, "refused 9 0"),

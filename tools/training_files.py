@@ -58,7 +58,7 @@ def judge_header(file):
     grid, ceiling, tolerance, budget, second = struct.unpack_from("<IIQII", file, 8)
     if m > 256 or len(file) != start(m + 1):
         raise Refused(1)
-    if first > m or not 1 <= d <= 16 or kernel > 1 or spare or second > 65536:
+    if first > m or not 1 <= d <= 16 or kernel > 2 or spare or second > 65536:
         raise Refused(2)
     if not 1 <= grid <= 1048576 or not 1 <= ceiling <= 65536 or tolerance > 10**12 or budget > 1000000:
         raise Refused(2)
@@ -127,6 +127,7 @@ EDGE_CASES = [
     ("d 17", put(D, 17)),
     ("kernel 1", put(KERNEL, 1)),
     ("kernel 2", put(KERNEL, 2)),
+    ("kernel 3", put(KERNEL, 3)),
     ("spare byte 6", put(SPARE, 1)),
     ("spare byte 7", put(SPARE + 1, 1)),
     ("S 0", put(S, 0, 4)),
@@ -198,7 +199,7 @@ def draw(pick):
             m,
             order[0] if order else 0,
             d,
-            pick.randint(0, 1),
+            pick.randint(0, 2),
             0,
             pick.choice([1, 10, 1048576, pick.randint(1, 1048576)]),
             pick.choice([1, 100, 65536, pick.randint(1, 65536)]),

@@ -64,6 +64,17 @@ static void put_file(uint8_t file[FILE_LENGTH]) {
     put_record(file + start(3), 1, WAS_LOOKED_UP, 1);
 }
 
+static const char *kernel_name(uint8_t kernel) {
+    switch (kernel) {
+    case LOOKAHEAD_LINEAR:
+        return "linear";
+    case LOOKAHEAD_SQUARE:
+        return "square";
+    default:
+        return "overlap";
+    }
+}
+
 static const char *ending_name(uint8_t ending) {
     switch (ending) {
     case LOOKAHEAD_CONVERGED:
@@ -110,8 +121,7 @@ static bool read_items(const uint8_t *file, Model *model) {
     if (refused(answer)) {
         return false;
     }
-    printf("items %zu, features %zu, kernel %s\n", model->items, used,
-           kernel == LOOKAHEAD_LINEAR ? "linear" : "square");
+    printf("items %zu, features %zu, kernel %s\n", model->items, used, kernel_name(kernel));
     return true;
 }
 

@@ -13,7 +13,7 @@ mod lookahead {
     use super::declared::{
         lookahead_certify, lookahead_classify, lookahead_read, lookahead_train, LookaheadAnswer,
         LOOKAHEAD_CONVERGED, LOOKAHEAD_LINEAR, LOOKAHEAD_LOOKED_UP, LOOKAHEAD_PASSED_OVER,
-        LOOKAHEAD_STUCK,
+        LOOKAHEAD_SQUARE, LOOKAHEAD_STUCK,
     };
     use std::fmt;
 
@@ -40,6 +40,7 @@ mod lookahead {
     pub enum Kernel {
         Linear,
         Square,
+        Overlap,
     }
 
     pub struct Contents {
@@ -101,7 +102,8 @@ mod lookahead {
         };
         let kernel = match kernel {
             LOOKAHEAD_LINEAR => Kernel::Linear,
-            _ => Kernel::Square,
+            LOOKAHEAD_SQUARE => Kernel::Square,
+            _ => Kernel::Overlap,
         };
         unless_refused(
             answer,
@@ -301,6 +303,7 @@ fn print_contents(call: &str, read: &Contents) {
     let kernel = match read.kernel {
         Kernel::Linear => "linear",
         Kernel::Square => "square",
+        Kernel::Overlap => "overlap",
     };
     println!(
         "{call}: items {}, features {}, kernel {kernel}",

@@ -1,15 +1,18 @@
 /* Times the library's four calls and the same calls in plain C, by turns in one run, on each training file named. Prints how many times
- * the plain one's time the library takes. Ends with status 1 where an answer differs. Refused files are passed over. */
+ * the plain one's time the library takes, for each file, for all files of a kernel, and for all. Ends with status 1 where an answer
+ * differs. Refused files are passed over. */
 
 #include "lookahead.h"
 #include <stdio.h>
 #include <string.h>
 #include <time.h>
 
-enum { PLACES = 32 + 20 * LOOKAHEAD_MOST_ITEMS + 1, ROUNDS = 9, CALLS = 4 };
+enum { PLACES = 32 + 20 * LOOKAHEAD_MOST_ITEMS + 1, ROUNDS = 9, CALLS = 4, KERNELS = 3 };
 
 static const double LEAST_SECONDS = 0.01;
 static const char *const NAMES[CALLS] = {"read", "train", "certify", "classify"};
+static const char *const KERNEL_NAMES[KERNELS] = {
+    [LOOKAHEAD_LINEAR] = "linear", [LOOKAHEAD_SQUARE] = "square", [LOOKAHEAD_OVERLAP] = "overlap"};
 
 typedef struct {
     __typeof__(lookahead_read) *read;
@@ -99,27 +102,45 @@ static int same_answers(Answer *x, Answer *z) {
     return memcmp(x, z, sizeof *x) == 0;
 }
 
+/* The time of each call, of the library and of plain C, over the files added. */
+typedef struct {
+    double library[CALLS], plain[CALLS];
+} Times;
+
+static void add(Times *sum, const Times *times) {
+    for (int call = 0; call < CALLS; call++) {
+        sum->library[call] += times->library[call];
+        sum->plain[call] += times->plain[call];
+    }
+}
+
+static void print_ratios(const Times *times) {
+    for (int call = 0; call < CALLS; call++) printf(" %s %.2f", NAMES[call], times->library[call] / times->plain[call]);
+    printf("\n");
+}
+
 int main(int count, char **names) {
     static Answer x, z;
-    double library[CALLS] = {0}, plain[CALLS] = {0};
+    Times of_kernel[KERNELS] = {0}, all = {0};
     for (int k = 1; k < count; k++) {
         if (!load(names[k]) || !same_answers(&x, &z)) {
             fprintf(stderr, "%s: cannot be read, or the answers differ\n", names[k]);
             return 1;
         }
         if (x.refusal != 0) continue;
-        printf("%s, %zu items, %u steps:", names[k], x.items, (unsigned)x.steps);
-        for (int call = 0; call < CALLS; call++) {
-            double l, p;
-            measure(call, &x, &l, &p);
-            printf(" %s %.2f", NAMES[call], l / p);
-            library[call] += l;
-            plain[call] += p;
-        }
-        printf("\n");
+        Times times;
+        printf("%s, %s, %zu items, %u steps:", names[k], KERNEL_NAMES[x.kernel], x.items, (unsigned)x.steps);
+        for (int call = 0; call < CALLS; call++) measure(call, &x, &times.library[call], &times.plain[call]);
+        print_ratios(&times);
+        add(&of_kernel[x.kernel], &times);
+        add(&all, &times);
+    }
+    for (int kernel = 0; kernel < KERNELS; kernel++) {
+        if (of_kernel[kernel].plain[0] == 0) continue;
+        printf("%s:", KERNEL_NAMES[kernel]);
+        print_ratios(&of_kernel[kernel]);
     }
     printf("all:");
-    for (int call = 0; call < CALLS; call++) printf(" %s %.2f", NAMES[call], library[call] / plain[call]);
-    printf("\n");
+    print_ratios(&all);
     return 0;
 }

@@ -17,7 +17,7 @@ use Rattle.training_file.specs.Item.{featureAllowed}
 use Rattle.reading.specs.Calls.{itemIn}
 use Rattle.reading.specs.Reading.{Reading, refused, accepted, reading}
 use Rattle.dual_problem.specs.Size.{gradientMost}
-use Rattle.dual_problem.specs.Kernel.{kernelValue}
+use Rattle.dual_problem.specs.Kernel.{kernelBetween}
 use Rattle.dual_problem.specs.Problem.{problem}
 use Rattle.dual_problem.specs.Items.{MultipliersListed, at, weighedSum}
 use Rattle.certifying.specs.declared.multipliers.Judgement.{Judgement}
@@ -32,7 +32,7 @@ use Rattle.classifying.specs.declared.classify.Classified.the-variants.{
 
 -- "K of item i and the word"
 abbrev pub wordKernel : Parameters → List Item → List ℤ → ℕ → ℤ
-wordKernel p items word i = kernelValue (p .kernel) (p .used) (itemIn items i .features) word
+wordKernel p items word i = kernelBetween p (itemIn items i .features) word
 
 -- "Classifying works out 2 × (sum of a_i × y_i × K of item i and the word) − (b_low + b_up).": doubled, so that halfway between the
 -- thresholds needs no fraction

@@ -4,15 +4,15 @@ pub mod Laws
 use mathlib.Core.Path.{_≡_}
 use mathlib.Core.List.{List}
 use Prim.Native.Nat.{ℕ, _*_, _≤_, _<_}
-use lib.IntN.{ℤ, pos, natAbs, _*ℤ_}
+use lib.IntN.{ℤ, pos, _*ℤ_}
 use lib.ListN.{length, getD}
 use Rattle.integers.specs.Sum.{sum}
 use Rattle.training_file.specs.declared.parameters.Parameters.{Parameters}
 use Rattle.training_file.specs.Parameters.{ceilingMost, gridMost, recordsMost}
-use Rattle.training_file.specs.Layout.{featureCount, signedMost}
+use Rattle.training_file.specs.Layout.{featureCount}
 use Rattle.reading.specs.Reading.{reading}
 use Rattle.reading.specs.Calls.{Tabled, itemIn, itemsIn}
-use Rattle.dual_problem.specs.Kernel.{kernelValue}
+use Rattle.dual_problem.specs.Kernel.{FeaturesInRange, kernelBetween}
 use Rattle.dual_problem.specs.Problem.{Problem, problem, y}
 
 -- the problem of a file's items
@@ -25,7 +25,7 @@ at a i = getD a i 0
 
 -- the kernel value of a list of features with the item at a place
 abbrev pub kernelWith : List ℕ → Parameters → List ℤ → ℕ → ℤ
-kernelWith file p xs j = kernelValue (p .kernel) (p .used) xs (itemIn (itemsIn (reading file)) j .features)
+kernelWith file p xs j = kernelBetween p xs (itemIn (itemsIn (reading file)) j .features)
 
 -- the sum over j of a_j × y_j × k_j
 abbrev pub weighedSum : Problem → (ℕ → ℕ) → (ℕ → ℤ) → ℤ
@@ -39,12 +39,12 @@ added file p xs a j = pos a *ℤ y (problemOf file p) j *ℤ kernelWith file p x
 abbrev pub weighedWith : List ℕ → Parameters → List ℤ → (ℕ → ℕ) → ℤ
 weighedWith file p xs a = weighedSum (problemOf file p) a (kernelWith file p xs)
 
--- the file was read, its n items can be fetched by the table, and each feature is one of 8 bits
+-- the file was read, its n items can be fetched by the table, and their features are in their range
 pub record Listed (file order : List ℕ) (n : ℕ) : Type 0 where
   pub few : n ≤ recordsMost
   pub counted : n ≡ length (itemsIn (reading file))
   pub tabled : (i : ℕ) → i < n → Tabled file order i
-  pub sized : (i : ℕ) → i < n → (q : ℕ) → natAbs (getD (itemIn (itemsIn (reading file)) i .features) q (pos 0)) ≤ signedMost
+  pub in-range : FeaturesInRange (length (itemsIn (reading file))) (λ i. itemIn (itemsIn (reading file)) i .features)
 
 -- besides, d and S are in their ranges, and there is a multiplier for each item, none above the highest ceiling
 pub record MultipliersListed (file order : List ℕ) (n : ℕ) (p : Parameters) (a : List ℕ) : Type 0 where

@@ -1,28 +1,71 @@
--- Document 01, "Grid definitions": the kernel value K of two items, by their features. Laws are in Kernel/Laws.antt. Assumes nothing.
+-- Document 01, "Grid definitions", and document 02, request (i): the kernel value K of two items, by their features. Laws are in
+-- Kernel/Laws.antt. Assumes nothing.
 pub mod Laws
+use mathlib.Core.Bool.{cond}
 use mathlib.Core.List.{List}
-use Prim.Native.Nat.{ℕ, _+_, _*_}
-use lib.IntN.{ℤ, pos, _+ℤ_, _*ℤ_}
+use Prim.Native.Nat.{ℕ, _+_, _*_, _≤_, _<_}
+use lib.IntN.{ℤ, pos, natAbs, _+ℤ_, _*ℤ_}
 use lib.ListN.{getD}
+use lib.Signed.{leZ}
 use Rattle.integers.specs.Sum.{sum}
 use Rattle.training_file.specs.declared.parameters.Kernel.{Kernel}
-use Rattle.training_file.specs.declared.parameters.Kernel.the-variants.{Linear, Square}
+use Rattle.training_file.specs.declared.parameters.Kernel.the-variants.{Linear, Square, Overlap}
+use Rattle.training_file.specs.declared.parameters.Parameters.{Parameters}
+use Rattle.training_file.specs.Item.{featureMost}
+
+-- the sum over the first d features of what f makes of the two values
+abbrev pub overFeatures : (ℤ → ℤ → ℤ) → ℕ → List ℤ → List ℤ → ℤ
+overFeatures f d xs zs = sum d (λ p. f (getD xs p (pos 0)) (getD zs p (pos 0)))
 
 -- "Linear: K is the sum of products of the first d features."
 abbrev pub linear : ℕ → List ℤ → List ℤ → ℤ
-linear d xs zs = sum d (λ p. getD xs p (pos 0) *ℤ getD zs p (pos 0))
+linear d xs zs = overFeatures _*ℤ_ d xs zs
 
 -- "Square: K is that sum plus 1, squared."
 abbrev pub square : ℕ → List ℤ → List ℤ → ℤ
 square d xs zs = (linear d xs zs +ℤ pos 1) *ℤ (linear d xs zs +ℤ pos 1)
 
+-- "raised by 127": a feature of −127 to 127 becomes a number of 0 to 254
+abbrev pub raised : ℤ → ℤ
+raised feature = feature +ℤ pos featureMost
+
+abbrev pub raisedMost : ℕ
+raisedMost = featureMost + featureMost
+
+-- "the smaller of the two values, each first raised by 127"
+abbrev pub smaller : ℤ → ℤ → ℤ
+smaller a b = cond (leZ a b) a b
+
+abbrev pub smallerRaised : ℤ → ℤ → ℤ
+smallerRaised x z = smaller (raised x) (raised z)
+
+-- "Kernel 2 is the sum over the first d features of the smaller of the two values, each first raised by 127."
+abbrev pub overlap : ℕ → List ℤ → List ℤ → ℤ
+overlap d xs zs = overFeatures smallerRaised d xs zs
+
+-- K of two lists of features, by the kernel that the header names
 abbrev pub kernelValue : Kernel → ℕ → List ℤ → List ℤ → ℤ
 kernelValue Linear d xs zs = linear d xs zs
 kernelValue Square d xs zs = square d xs zs
+kernelValue Overlap d xs zs = overlap d xs zs
 
--- how large a value can be, of d features of which none is larger than F
-abbrev pub largestLinear : ℕ → ℕ → ℕ
-largestLinear d F = d * (F * F)
+-- K of two items by their features, with the kernel and the features in use that the parameters name
+abbrev pub kernelBetween : Parameters → List ℤ → List ℤ → ℤ
+kernelBetween p xs zs = kernelValue (p .kernel) (p .used) xs zs
+
+-- what a kernel's sum over the features adds up
+abbrev pub summand : Kernel → ℤ → ℤ → ℤ
+summand Linear x z = x *ℤ z
+summand Square x z = x *ℤ z
+summand Overlap x z = smallerRaised x z
+
+-- the features of the first n items are in their range, "−127 to 127": what the kernels' Gram form asks (`kernel-gram`)
+abbrev pub FeaturesInRange : ℕ → (ℕ → List ℤ) → Type 0
+FeaturesInRange n features = (i : ℕ) → i < n → (p : ℕ) → natAbs (getD (features i) p (pos 0)) ≤ featureMost
+
+-- how large a kernel's sum over d features can be, where none is larger than F, and how large a kernel value, which is the square's
+abbrev pub largestFeatureSum : ℕ → ℕ → ℕ
+largestFeatureSum d F = d * (F * F)
 
 abbrev pub largestKernel : ℕ → ℕ → ℕ
-largestKernel d F = (largestLinear d F + 1) * (largestLinear d F + 1)
+largestKernel d F = (largestFeatureSum d F + 1) * (largestFeatureSum d F + 1)

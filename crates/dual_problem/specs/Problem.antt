@@ -18,7 +18,7 @@ use Rattle.training_file.specs.declared.item.Label.{Label}
 use Rattle.training_file.specs.declared.item.Label.the-variants.{LookedUp, PassedOver}
 use Rattle.training_file.specs.Item.{opposite}
 use Rattle.reading.specs.Calls.{itemIn}
-use Rattle.dual_problem.specs.Kernel.{kernelValue}
+use Rattle.dual_problem.specs.Kernel.{kernelBetween}
 
 -- what training works on: the number of items, their labels, their kernel values, S, and the ceiling of each item
 pub record Problem : Type 0 where
@@ -143,7 +143,7 @@ problem p items =
     record {
       count = length items;
       label = λ i. itemIn items i .label;
-      kernel = λ i j. kernelValue (p .kernel) (p .used) (itemIn items i .features) (itemIn items j .features);
+      kernel = λ i j. kernelBetween p (itemIn items i .features) (itemIn items j .features);
       grid = p .grid;
       ceiling = λ i. ceilingOf p (itemIn items i .label);
     }

@@ -4,11 +4,11 @@ pub mod Laws
 use Prim.Native.Nat.{ℕ, _+_, _*_}
 use Rattle.training_file.specs.Layout.{featureCount, signedMost}
 use Rattle.training_file.specs.Parameters.{ceilingMost, gridMost, recordsMost}
-use Rattle.dual_problem.specs.Kernel.{largestKernel, largestLinear}
+use Rattle.dual_problem.specs.Kernel.{largestFeatureSum, largestKernel}
 
--- a sum of products of features, and a kernel value: of all the features that an item has, each a signed byte
-abbrev pub linearMost : ℕ
-linearMost = largestLinear featureCount signedMost
+-- a kernel's sum over the features, and a kernel value: of all the features that an item has, each a signed byte
+abbrev pub featureSumMost : ℕ
+featureSumMost = largestFeatureSum featureCount signedMost
 
 abbrev pub kernelMost : ℕ
 kernelMost = largestKernel featureCount signedMost

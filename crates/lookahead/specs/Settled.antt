@@ -1,6 +1,6 @@
 -- Document 01, "Settled examples": P1 to P12 as one table of inputs and results, and one theorem, by the definitions that the
--- contracts of the public calls cite. E1 to E3, K1 to K4 and F1 to F6 are our own, for requests (e), (k) and (f) of document 02. Assumes
--- nothing.
+-- contracts of the public calls cite. E1 to E3, K1 to K4, F1 to F6 and I1 to I7 are our own, for requests (e), (k), (f) and (i) of
+-- document 02. Assumes nothing.
 use mathlib.Core.Path.{_≡_, refl}
 use mathlib.Core.Bool.{Bool, false}
 use mathlib.Core.List.{List, [], _∷_, _++_}
@@ -55,8 +55,8 @@ stored next label feature = next ∷ 0 ∷ label ∷ 0 ∷ feature ∷ replicate
 abbrev plusMinus : (kernel S c t budget : ℕ) → List ℕ
 plusMinus kernel S c t budget = header 2 kernel S c t budget ++ stored 2 1 1 ++ stored 0 2 255
 
-abbrev bothOne : List ℕ
-bothOne = header 2 0 10 7 0 50 ++ stored 2 1 1 ++ stored 0 2 1
+abbrev bothOne : (kernel : ℕ) → List ℕ
+bothOne kernel = header 2 kernel 10 7 0 50 ++ stored 2 1 1 ++ stored 0 2 1
 
 abbrev three : List ℕ
 three = header 3 0 1 2 0 50 ++ stored 2 1 10 ++ stored 3 2 246 ++ stored 0 2 10
@@ -79,6 +79,10 @@ ceilings c second second₂ = headerWith 2 0 10 c 0 50 second second₂ ++ store
 
 abbrev oneAgainstTwo : (c second : ℕ) → List ℕ
 oneAgainstTwo c second = headerWith 3 0 10 c 0 50 second 0 ++ stored 2 1 1 ++ stored 3 2 255 ++ stored 0 2 255
+
+-- kernel 2: item + with feature 127, raised to 254, item − with feature −127, whose byte is 129, raised to 0
+abbrev bothEnds : List ℕ
+bothEnds = header 2 2 127 100 0 50 ++ stored 2 1 127 ++ stored 0 2 129
 
 -- ---- the cases
 pub data Case : Type 0 where
@@ -130,7 +134,7 @@ settledExamples =
     ∷ trains (plusMinus 0 1 10 1 50) Converged 0 (pos 1) (negsuc 0) (0 ∷ 0 ∷ 9 ∷ [])  -- P4
     ∷ trains (plusMinus 0 1 10 0 0) Stuck 0 (pos 1) (negsuc 0) (0 ∷ 0 ∷ 9 ∷ [])  -- P5
     ∷ trains (plusMinus 0 10 100 0 0) Spent 0 (pos 10) (negsuc 9) (0 ∷ 0 ∷ 9 ∷ [])  -- P6
-    ∷ trains bothOne Converged 1 (negsuc 9) (pos 10) (7 ∷ 7 ∷ 9 ∷ [])  -- P7
+    ∷ trains (bothOne 0) Converged 1 (negsuc 9) (pos 10) (7 ∷ 7 ∷ 9 ∷ [])  -- P7
     ∷ trains (plusMinus 1 16 100 0 50) Converged 1 (pos 0) (pos 0) (4 ∷ 4 ∷ 9 ∷ [])  -- P8
     ∷ firstPairStays three  -- P9
     ∷ trains three Converged 1 (pos 1) (pos 1) (2 ∷ 0 ∷ 2 ∷ [])
@@ -153,6 +157,14 @@ settledExamples =
     ∷ certifies (ceilings 100 3 0) (4 ∷ 4 ∷ []) (certified.Refused (refusal 7))  -- F5
     ∷ certifies (ceilings 3 100 0) (4 ∷ 4 ∷ []) (certified.Refused (refusal 7))
     ∷ trains (oneAgainstTwo 100 2) Converged 2 (negsuc 1) (negsuc 1) (4 ∷ 2 ∷ 2 ∷ [])  -- F6
+    ∷ trains (plusMinus 2 10 100 0 50) Converged 1 (pos 10) (pos 10) (10 ∷ 10 ∷ 9 ∷ [])  -- I1
+    ∷ trains bothEnds Converged 1 (pos 127) (pos 127) (1 ∷ 1 ∷ 9 ∷ [])  -- I2
+    ∷ trains (bothOne 2) Converged 1 (negsuc 9) (pos 10) (7 ∷ 7 ∷ 9 ∷ [])  -- I3, where η is 0
+    ∷ certifies (plusMinus 2 10 100 0 50) (5 ∷ 5 ∷ []) (certified.Found (record { lower = pos 10; upper = pos 0 }))  -- I4
+    ∷ classifies (plusMinus 2 10 100 0 50) (10 ∷ 10 ∷ []) (pos 3 ∷ []) (Is LookedUp) (pos 20)  -- I5
+    ∷ classifies (plusMinus 2 10 100 0 50) (10 ∷ 10 ∷ []) (pos 0 ∷ []) (Is Undecided) (pos 0)
+    ∷ classifies bothEnds (1 ∷ 1 ∷ []) (negsuc 126 ∷ []) (Is PassedOver) (negsuc 253)  -- I6
+    ∷ refuses (plusMinus 3 10 100 0 50) (refusal 2)  -- I7
     ∷ []
 
 pub settled : AllHold settledExamples
@@ -176,7 +188,7 @@ settled = (
                 (refl, refl),
                 (
                   refl,
-                  ((refl, refl), (refl, (refl, (refl, ((refl, refl), ((refl, refl), ((refl, refl), ((refl, refl), ((refl, refl), (refl, (refl, (refl, (refl, ((refl, refl), ((refl, refl), ((refl, refl), (refl, (refl, (refl, ((refl, refl), tt)))))))))))))))))))),
+                  ((refl, refl), (refl, (refl, (refl, ((refl, refl), ((refl, refl), ((refl, refl), ((refl, refl), ((refl, refl), (refl, (refl, (refl, (refl, ((refl, refl), ((refl, refl), ((refl, refl), (refl, (refl, (refl, ((refl, refl), ((refl, refl), ((refl, refl), ((refl, refl), (refl, ((refl, refl), ((refl, refl), ((refl, refl), (refl, tt)))))))))))))))))))))))))))),
                 ),
               ),
             ),

@@ -13,10 +13,10 @@ use Rattle.training_file.specs.Parameters.{ceilingMost}
 use Rattle.training_file.specs.Layout.{featureCount}
 use Rattle.reading.specs.Calls.{itemIn}
 use Rattle.dual_problem.specs.Size.{gradientMost}
+use Rattle.dual_problem.specs.Kernel.{kernelBetween}
 use Rattle.dual_problem.specs.Problem.{Problem, gradient}
 use Rattle.dual_problem.specs.Items.{Listed, at}
 use Rattle.working_pair.specs.Step.{fall, rise, moved, amount}
-use Rattle.working_pair.specs.Curvature.{kernelBetween}
 
 -- the multipliers after a step of the pair (i, j)
 abbrev pub stepped : Problem → List ℕ → ℕ → ℕ → List ℕ

@@ -5,7 +5,7 @@ use mathlib.Core.Bool.{Bool, _&&_, cond}
 use Prim.Native.Nat.{ℕ, _≤_}
 use lib.Dec.{leb, eqb}
 use Rattle.training_file.specs.declared.parameters.Kernel.{Kernel}
-use Rattle.training_file.specs.declared.parameters.Kernel.the-variants.{Linear, Square}
+use Rattle.training_file.specs.declared.parameters.Kernel.the-variants.{Linear, Square, Overlap}
 use Rattle.training_file.specs.declared.parameters.Parameters.{Parameters}
 use Rattle.training_file.specs.Layout.{featureCount}
 
@@ -33,17 +33,18 @@ budgetMost = 1000000
 abbrev pub within : ℕ → ℕ → ℕ → Bool
 within least greatest value = leb least value && leb value greatest
 
--- "kernel: 0 linear, 1 square". Only an allowed byte is asked for its kernel.
+-- "kernel: 0 linear, 1 square"; it "now allows 2 as well" (document 02, request (i)). Only an allowed byte is asked for its kernel.
 abbrev pub kernelAllowed : ℕ → Bool
-kernelAllowed byte = leb byte 1
+kernelAllowed byte = leb byte 2
 
 abbrev pub kernelOfByte : ℕ → Kernel
-kernelOfByte byte = cond (eqb byte 0) Linear Square
+kernelOfByte byte = cond (eqb byte 0) Linear (cond (eqb byte 1) Square Overlap)
 
 -- the byte of a kernel, which stands for it alone (`kernel-back`, `kernel-byte-back`)
 abbrev pub byteOfKernel : Kernel → ℕ
 byteOfKernel Linear = 0
 byteOfKernel Square = 1
+byteOfKernel Overlap = 2
 
 -- both ceilings, each within its range
 abbrev pub ceilingsAllowed : ℕ → ℕ → Bool

@@ -11,6 +11,7 @@ use super::refusal::Refusal;
 pub enum Kernel {
     Linear,
     Square,
+    Overlap,
 }
 
 pub enum KernelAnswer {
@@ -35,6 +36,8 @@ impl Kernel {
 
     pub const SQUARE: u8 = 1;
 
+    pub const OVERLAP: u8 = 2;
+
     // The byte that a header has for it.
     pub fn to_byte(self) -> u8
         ensures { λ r. ⌜ r ≡ byteOfKernel self ⌝ }
@@ -42,6 +45,7 @@ impl Kernel {
         match self {
             Kernel::Linear => Kernel::LINEAR,
             Kernel::Square => Kernel::SQUARE,
+            Kernel::Overlap => Kernel::OVERLAP,
         }
     }
 
@@ -54,6 +58,9 @@ impl Kernel {
         }
         if byte == Kernel::SQUARE {
             return KernelAnswer::Known(Kernel::Square);
+        }
+        if byte == Kernel::OVERLAP {
+            return KernelAnswer::Known(Kernel::Overlap);
         }
         KernelAnswer::Refused(Refusal::HEADER)
     }

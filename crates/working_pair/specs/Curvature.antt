@@ -7,11 +7,7 @@ use lib.ListN.{length}
 use Rattle.training_file.specs.declared.parameters.Parameters.{Parameters}
 use Rattle.training_file.specs.Layout.{featureCount}
 use Rattle.dual_problem.specs.Size.{kernelMost}
-use Rattle.dual_problem.specs.Kernel.{kernelValue}
-
--- K of two items, by their features
-abbrev pub kernelBetween : Parameters → List ℤ → List ℤ → ℤ
-kernelBetween p xs zs = kernelValue (p .kernel) (p .used) xs zs
+use Rattle.dual_problem.specs.Kernel.{kernelBetween}
 
 -- "η = K_ii + K_jj − 2 × K_ij", of two items by their features
 abbrev pub curvatureBetween : Parameters → List ℤ → List ℤ → ℤ

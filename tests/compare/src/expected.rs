@@ -6,11 +6,12 @@ use crate::library::{CertifyAnswer, ClassifyAnswer, ReadAnswer, TrainAnswer};
 use reference::kernel::Kernel;
 use reference::{Class, Ending};
 
-/// "kernel: 0 linear, 1 square" of document 01's header.
+/// "kernel: 0 linear, 1 square" of document 01's header, and 2 the overlap.
 fn kernel_number(kernel: Kernel) -> u8 {
     match kernel {
         Kernel::Linear => 0,
         Kernel::Square => 1,
+        Kernel::Overlap => 2,
     }
 }
 

@@ -77,7 +77,8 @@ impl Tally {
 fn answer_name((call, refusal, answer): (&str, u8, u8)) -> String {
     match (call, refusal, answer) {
         ("read", 0, 0) => "linear".into(),
-        ("read", 0, _) => "square".into(),
+        ("read", 0, 1) => "square".into(),
+        ("read", 0, _) => "overlap".into(),
         ("train", 0, 1) => "converged".into(),
         ("train", 0, 2) => "stuck".into(),
         ("train", 0, _) => "spent".into(),

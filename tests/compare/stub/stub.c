@@ -15,7 +15,7 @@
 #endif
 #define WRONG(k) (MUTATION == (k))
 
-enum { MOST = 256, LOWEST = -127, HIGHEST = 127 };
+enum { MOST = 256, LOWEST = -127, HIGHEST = 127, RAISE = 127 };
 
 typedef struct {
     int d, kernel, n, y[MOST];
@@ -39,25 +39,70 @@ static const uint8_t *record(const uint8_t *f, size_t r) { return f + 32 + 20 * 
 /* A refusal without a record, or none: 0. */
 static lookahead_answer refused(uint8_t number) { return (lookahead_answer){number, 0}; }
 
-static int64_t kernel(const Problem *p, const int8_t *u, const int8_t *v) {
-    int products = 0;
-    for (int k = 0; k < p->d - WRONG(42) * (p->d > 15); k++) products += u[k] * v[k];
-    int64_t sum = products;
-    if (p->kernel == 0) return sum;
-    if (WRONG(15)) return sum * sum;
-    sum += 1;
+static int products(const Problem *p, const int8_t *u, const int8_t *v) {
+    int sum = 0;
+    for (int k = 0; k < p->d - WRONG(42) * (p->d > 15); k++) sum += u[k] * v[k];
+    return sum;
+}
+
+static int64_t square(int64_t sum) {
+    if (!WRONG(15)) sum += 1;
     return WRONG(28) ? (int32_t)(uint32_t)(sum * sum) : sum * sum;
 }
 
+/* The smaller of two features, each first raised. */
+static int shared(int u, int v) {
+    int x = WRONG(191) ? u : u + RAISE, z = WRONG(190) ? v : v + RAISE;
+    if (WRONG(189)) return x > z ? x : z;
+    if (WRONG(192)) x = (int8_t)x, z = (int8_t)z;
+    if (WRONG(193)) return x * z;
+    if (WRONG(194)) return abs(u) < abs(v) ? u : v;
+    if (WRONG(195)) return abs(u) < abs(v) ? abs(u) : abs(v);
+    if (WRONG(196)) return (uint8_t)u < (uint8_t)v ? x : z;
+    if (WRONG(197)) x = u > 0 ? u : 0, z = v > 0 ? v : 0;
+    if (WRONG(198) && x == z) return 0;
+    if (WRONG(199)) return abs(x - z);
+    return x < z ? x : z;
+}
+
+static int overlap(const Problem *p, const int8_t *u, const int8_t *v) {
+    int sum = 0;
+    for (int k = WRONG(200); k < (WRONG(202) ? 1 : p->d - WRONG(201)); k++) sum += shared(u[k], v[k]);
+    return WRONG(204) ? (uint8_t)sum : sum;
+}
+
+/* For mutations 203 and 226: the sum of the features in use. */
+static int features_sum(const Problem *p, const int8_t *u) {
+    int sum = 0;
+    for (int k = 0; k < p->d; k++) sum += u[k];
+    return sum;
+}
+
+static int64_t kernel(const Problem *p, const int8_t *u, const int8_t *v) {
+    if (p->kernel == LOOKAHEAD_LINEAR) return products(p, u, v);
+    if (p->kernel == LOOKAHEAD_SQUARE) return square(products(p, u, v));
+    if (WRONG(203)) return features_sum(p, features_sum(p, u) < features_sum(p, v) ? u : v);
+    if (WRONG(205)) return products(p, u, v);
+    if (WRONG(206)) return square(products(p, u, v));
+    if (WRONG(207)) return (int64_t)overlap(p, u, v) * overlap(p, u, v);
+    return overlap(p, u, v);
+}
+
+/* For mutations that take another kernel for the overlap in one place alone. */
+static void take_linear(Problem *p) {
+    if (p->kernel == LOOKAHEAD_OVERLAP) p->kernel = LOOKAHEAD_LINEAR;
+}
+
 /* 4, or 0 for a sound record. */
-static uint8_t judge_record(const uint8_t *r, int d) {
+static uint8_t judge_record(const Problem *p, const uint8_t *r) {
     if (WRONG(34) ? r[2] == 0 : r[2] != 1 && r[2] != 2) return 4;
     if (r[3] != 0 && !WRONG(33)) return 4;
     for (int k = 0; k < 16; k++) {
         int8_t f = (int8_t)r[4 + k];
         int highest = HIGHEST - WRONG(29), lowest = LOWEST - WRONG(30) + WRONG(43);
         if (f < lowest || f > highest) return 4;
-        if (k >= d && f != 0 && !WRONG(44)) return 4;
+        if (WRONG(225) && p->kernel == LOOKAHEAD_OVERLAP && f == LOWEST) return 4;
+        if (k >= p->d && f != 0 && !WRONG(44)) return 4;
     }
     return 0;
 }
@@ -92,17 +137,25 @@ static int64_t passed_over_ceiling(const Problem *p, int64_t second) {
     return second > 0 ? second : p->c;
 }
 
+static int kernel_out_of_range(int kernel) {
+    if (WRONG(208)) return kernel > LOOKAHEAD_SQUARE;
+    if (WRONG(209) || WRONG(210) || WRONG(211)) return kernel > 3;
+    if (WRONG(212)) return (kernel & 3) > LOOKAHEAD_OVERLAP;
+    if (WRONG(213)) return (int8_t)kernel > LOOKAHEAD_OVERLAP;
+    return kernel > LOOKAHEAD_OVERLAP && !WRONG(214);
+}
+
 static uint8_t judge_header(Problem *p, const uint8_t *f) {
     uint64_t t = field(f + 16, 8);
     int64_t second = second_ceiling(f);
     p->d = f[4];
-    p->kernel = f[5];
+    p->kernel = (WRONG(209) || WRONG(210) || WRONG(211)) && f[5] == 3 ? MUTATION - 209 : f[5];
     p->S = (int64_t)field(f + 8, 4);
     p->c = (int64_t)field(f + 12, 4);
     p->t = (int64_t)t;
     p->budget = (uint32_t)field(f + 24, 4);
     if (first_record(f) > field(f, 2)) return WRONG(18) ? 3 : 2;
-    if (p->d < 1 || p->d > 16 - WRONG(85) || p->kernel > 1 || f[6] || (f[7] && !WRONG(46))) return 2;
+    if (p->d < 1 || p->d > 16 - WRONG(85) || kernel_out_of_range(f[5]) || f[6] || (f[7] && !WRONG(46))) return 2;
     if (WRONG(185) && p->c == 0) p->c = second;
     if (p->S < 1 || p->S > 1048576 - WRONG(83) || p->c < 1 || p->c > 65536 + WRONG(45) - WRONG(84)) return 2;
     if (WRONG(32) ? p->t > 1000000000000 : t > 1000000000000u - WRONG(82)) return 2;
@@ -167,7 +220,7 @@ static lookahead_answer walk(Problem *p, const uint8_t *f) {
         size_t r = next;
         p->record[p->n++] = r;
         if (!(WRONG(135) && p->n == 1) && !(WRONG(136) && p->n % 2 == 0)) met[place_of_mark(r)] = 1;
-        if (WRONG(17) && judge_record(record(f, r), p->d)) return refused(4);
+        if (WRONG(17) && judge_record(p, record(f, r))) return refused(4);
         if (WRONG(139) && (size_t)p->n == m) break;
         next = next_of(f, r);
         if (next > m - WRONG(140)) return broken(p, f, 3, next);
@@ -183,7 +236,7 @@ static lookahead_answer judge_all(const Problem *p, const uint8_t *f) {
     size_t m = field(f, 2);
     for (size_t r = 1; r <= m; r++) {
         size_t next = next_of(f, r);
-        if (WRONG(16) && judge_record(record(f, r), p->d)) return refused(4);
+        if (WRONG(16) && judge_record(p, record(f, r))) return refused(4);
         if (WRONG(147) && next > m) return (lookahead_answer){3, (uint16_t)r};
         if (WRONG(148) && next <= m && next != 0 && led_to[next]++) return (lookahead_answer){16, (uint16_t)r};
     }
@@ -202,7 +255,7 @@ static lookahead_answer judge_items(Problem *p, const uint8_t *f) {
     int one_sided = plus == 0 || (plus == n && !WRONG(48));
     if (WRONG(19) && one_sided) return refused(5);
     for (int i = 0; i < n; i++)
-        if (judge_record(record(f, p->record[i]), p->d))
+        if (judge_record(p, record(f, p->record[i])))
             return (lookahead_answer){4, WRONG(152) ? (uint16_t)p->record[i] : 0};
     if (one_sided) return (lookahead_answer){5, WRONG(153) ? last : 0};
     return (lookahead_answer){0, WRONG(154) ? last : 0};
@@ -263,6 +316,7 @@ static void set_gradient(Problem *p) {
 
 static int64_t eta(const Problem *p, int i, int j) {
     const int8_t *x = p->x[WRONG(115) && i > 0 ? i - 1 : i], *z = p->x[WRONG(114) ? i : j];
+    if (WRONG(226) && p->kernel == LOOKAHEAD_OVERLAP) return abs(features_sum(p, x) - features_sum(p, z));
     return kernel(p, x, x) + kernel(p, z, z) - (WRONG(50) ? 1 : 2) * kernel(p, p->x[i], p->x[j]);
 }
 
@@ -271,19 +325,13 @@ static int moves(const Problem *p, int i, int j) {
     if (g <= 0) return 0;
     int64_t e = eta(p, i, j);
     if (WRONG(5) && e == 0) return 0;
+    if (WRONG(216) && e == 0 && p->kernel == LOOKAHEAD_OVERLAP) return 0;
     if (WRONG(51)) return g > e;
     return WRONG(14) ? g > 0 && 2 * g >= e : 2 * g > e;
 }
 
-static int find_pair(const Problem *p, int *pi, int *pj) {
-    *pi = p->at_lower;
-    *pj = p->at_upper;
-    for (int k = p->n; k-- > 0;) {
-        if (WRONG(72) && p->G[k] == p->lower) *pi = k;
-        if (WRONG(73) && p->G[k] == p->upper) *pj = k;
-    }
-    if (!WRONG(52) && moves(p, *pi, *pj)) return 1;
-    if (WRONG(53)) return 0;
+/* The first pair that moves, by rising i, then rising j. */
+static int search(const Problem *p, int *pi, int *pj) {
     int64_t best = -1;
     for (int u = 0; u < p->n; u++)
         for (int v = 0; v < p->n; v++) {
@@ -295,6 +343,23 @@ static int find_pair(const Problem *p, int *pi, int *pj) {
             if (p->G[i] - p->G[j] > best) best = p->G[i] - p->G[j], *pi = i, *pj = j;
         }
     return best >= 0;
+}
+
+static int find_pair(const Problem *p, int *pi, int *pj) {
+    *pi = p->at_lower;
+    *pj = p->at_upper;
+    for (int k = p->n; k-- > 0;) {
+        if (WRONG(72) && p->G[k] == p->lower) *pi = k;
+        if (WRONG(73) && p->G[k] == p->upper) *pj = k;
+    }
+    if (!WRONG(52) && moves(p, *pi, *pj)) return 1;
+    if (WRONG(53)) return 0;
+    if (WRONG(215)) {
+        Problem other = *p;
+        take_linear(&other);
+        return search(&other, pi, pj);
+    }
+    return search(p, pi, pj);
 }
 
 static int64_t amount(const Problem *p, int i, int j) {
@@ -379,6 +444,9 @@ lookahead_answer lookahead_read(const uint8_t *file, size_t len, uint16_t *order
     if (WRONG(107)) *items = order_len;
     *used = (size_t)(WRONG(108) ? 16 : p.d);
     *kernel = (uint8_t)(WRONG(109) ? 1 - p.kernel : WRONG(110) ? 1 + p.kernel : p.kernel);
+    if (WRONG(217) && p.kernel == LOOKAHEAD_OVERLAP) *kernel = LOOKAHEAD_SQUARE;
+    if (WRONG(218) && p.kernel == LOOKAHEAD_OVERLAP) *kernel = LOOKAHEAD_LINEAR;
+    if (WRONG(219)) *kernel &= 1;
     return answer;
 }
 
@@ -394,6 +462,7 @@ lookahead_answer lookahead_train(const uint8_t *file, size_t len, uint32_t *mult
     if (answer.number) return answer;
     if (multipliers_len < (size_t)p.n) return refused(6);
     if (gradient_len < (size_t)p.n && !WRONG(25)) return refused(6);
+    if (WRONG(220)) take_linear(&p);
     *ending = run(&p, steps);
     for (int i = 0; i < p.n; i++) multipliers[i] = (uint32_t)p.a[i];
     for (int i = 0; i < p.n && (size_t)i < gradient_len; i++) gradient[i] = p.G[i];
@@ -435,6 +504,7 @@ lookahead_answer lookahead_certify(const uint8_t *file, size_t len, const uint32
     if (WRONG(161) && answer.number > 5 && answer.number < 9) answer.record = (uint16_t)p.record[0];
     if (answer.number && WRONG(66)) *lower = 0;
     if (answer.number) return answer;
+    if (WRONG(221)) take_linear(&p);
     set_gradient(&p);
     set_thresholds(&p);
     *lower = p.lower;
@@ -470,14 +540,19 @@ lookahead_answer lookahead_classify(const uint8_t *file, size_t len, const uint3
     if (!answer.number && !WRONG(67)) answer.number = judge_word(word, (size_t)p.d);
     if (answer.number && WRONG(68)) *class_answer = 0;
     if (answer.number) return answer;
+    int named = p.kernel;
+    if (WRONG(222)) take_linear(&p);
     set_gradient(&p);
     set_thresholds(&p);
+    p.kernel = named;
+    if (WRONG(223)) take_linear(&p);
     int64_t sum = 0;
     for (int i = 0; i < p.n; i++) sum += p.a[i] * p.y[i] * kernel(&p, p.x[i], word);
     uint32_t steps;
     if (WRONG(87)) run(&p, &steps);
     int64_t middle = WRONG(24) ? 2 * p.lower : WRONG(39) ? 2 * p.upper : WRONG(40) ? 0 : p.lower + p.upper;
     int64_t score = (WRONG(41) ? 1 : 2) * sum - middle;
+    if (WRONG(224) && p.kernel == LOOKAHEAD_OVERLAP) score = 2 * sum;
     if (WRONG(89)) score = (int64_t)(score << 6) >> 6;
     if (WRONG(120)) score = sum - middle / 2;
     if ((WRONG(117) && score == -1) || (WRONG(118) && score == 1)) score = 0;

@@ -1,15 +1,15 @@
-//! The files of document 01's settled examples, our own for the second ceiling,
-//! and three at the ends of what a training can be.
+//! The files of document 01's settled examples, our own for the second ceiling
+//! and the overlap, and four at the ends of what a training can be.
 
-use crate::file::{MOST_RECORDS, RECORD_BYTES};
-use crate::generate::draft::{Draft, LOOKED_UP, PASSED_OVER};
+use crate::file::{MOST_RECORDS, RECORD_BYTES, STORED_FEATURES};
+use crate::generate::draft::{Draft, LINEAR, LOOKED_UP, OVERLAP, PASSED_OVER, SQUARE};
 
 /// "±1 file": d = 1, linear, item + with feature 1, item − with feature −1,
 /// budget 50.
 pub fn plus_minus_one(units: u32, ceiling: u32, tolerance: u64) -> Draft {
     Draft {
         features: 1,
-        kernel: 0,
+        kernel: LINEAR,
         units,
         ceiling,
         tolerance,
@@ -56,7 +56,7 @@ pub fn p7() -> Draft {
 
 pub fn p8() -> Draft {
     Draft {
-        kernel: 1,
+        kernel: SQUARE,
         ..plus_minus_one(16, 100, 0)
     }
 }
@@ -146,6 +146,46 @@ pub fn second_ceilings() -> Vec<Vec<u8>> {
     drafts.iter().map(Draft::plain).collect()
 }
 
+/// P1 with the overlap.
+pub fn i1() -> Draft {
+    Draft {
+        kernel: OVERLAP,
+        ..p1()
+    }
+}
+
+/// The items at the ends of the range of a feature, raised to 254 and to 0.
+pub fn i2() -> Draft {
+    let items = vec![(LOOKED_UP, vec![127]), (PASSED_OVER, vec![-127])];
+    Draft {
+        units: 127,
+        items,
+        ..i1()
+    }
+}
+
+/// P7 with the overlap: both features are 1, and η is 0.
+pub fn i3() -> Draft {
+    Draft {
+        kernel: OVERLAP,
+        ..p7()
+    }
+}
+
+/// P1 with a kernel beyond its range.
+pub fn i7() -> Draft {
+    Draft {
+        kernel: OVERLAP + 1,
+        ..p1()
+    }
+}
+
+/// The files of I1 to I3 and I7, our own examples; I4 and I5 use the file of I1,
+/// and I6 that of I2.
+pub fn overlaps() -> Vec<Vec<u8>> {
+    [i1(), i2(), i3(), i7()].iter().map(Draft::plain).collect()
+}
+
 /// The example of the training program: three records, first 3, record 2 spare.
 /// The spare record is given bytes that no item may have.
 pub fn three_records() -> Vec<u8> {
@@ -203,6 +243,25 @@ pub fn largest_totals() -> Draft {
         items: by_turns(MOST_RECORDS, |_| 1),
         budget: MOST_RECORDS as u32 / 2,
         ..plus_minus_one(10, 65_536, 0)
+    }
+}
+
+/// As many items as can be, each of sixteen features, with the overlap: 131
+/// steps, 3 of them of fallback pairs, and then no pair of all moves.
+pub fn largest_overlap() -> Draft {
+    let feature = |k: usize, p: usize| ((k * k * (p + 3) + 29 * k + 17 * p) % 255) as i32 - 127;
+    let item = |k: usize| {
+        let features: Vec<i32> = (0..STORED_FEATURES).map(|p| feature(k, p)).collect();
+        let hard = features.iter().sum::<i32>() > 0;
+        let label = if hard { LOOKED_UP } else { PASSED_OVER };
+        (label, features.into_iter().map(|f| f as i8).collect())
+    };
+    Draft {
+        features: STORED_FEATURES as u8,
+        kernel: OVERLAP,
+        items: (0..MOST_RECORDS).map(item).collect(),
+        budget: 1_000_000,
+        ..plus_minus_one(100_000, 30, 0)
     }
 }
 

@@ -1,5 +1,6 @@
 //! Reading a training file: document 01, "The training file" and refusals 1 to 5,
-//! and document 02, requests (k), refusal 16, and (f), the second ceiling.
+//! and document 02, requests (k), refusal 16, (f), the second ceiling, and (i),
+//! the kernel byte.
 //!
 //! Refusals 1, 2, 4 and 5 have a pass over the file each, 3 and 16 share one, so
 //! that the order of the tests can be seen by reading `read` from top to bottom.
@@ -72,7 +73,7 @@ impl Parameters {
 }
 
 /// A chained record. Only the first d features are kept: the rest are zero in
-/// every accepted file, and both kernels use the first d alone.
+/// every accepted file, and all kernels use the first d alone.
 #[derive(Clone, Debug)]
 pub struct Item {
     pub record: usize,
@@ -123,7 +124,7 @@ fn judge_length(file: &[u8]) -> Result<usize, u8> {
 fn judge_header(file: &[u8], records: usize) -> Result<Parameters, u8> {
     let first = number(file, 2, 2);
     let features = number(file, 4, 1);
-    let kernel = number(file, 5, 1);
+    let kernel = Kernel::numbered(number(file, 5, 1)).ok_or(2)?;
     let units = number(file, 8, 4);
     let ceiling = number(file, 12, 4);
     let tolerance = number(file, 16, 8);
@@ -131,7 +132,6 @@ fn judge_header(file: &[u8], records: usize) -> Result<Parameters, u8> {
     let second_ceiling = number(file, 28, 4);
     let in_range = first <= records as u64
         && (1..=STORED_FEATURES as u64).contains(&features)
-        && kernel <= 1
         && (1..=MOST_UNITS).contains(&units)
         && (1..=HIGHEST_CEILING).contains(&ceiling)
         && tolerance <= HIGHEST_TOLERANCE
@@ -143,11 +143,7 @@ fn judge_header(file: &[u8], records: usize) -> Result<Parameters, u8> {
     }
     Ok(Parameters {
         features: features as usize,
-        kernel: if kernel == 0 {
-            Kernel::Linear
-        } else {
-            Kernel::Square
-        },
+        kernel,
         units: units.into(),
         ceiling: ceiling.into(),
         second_ceiling: second_ceiling.into(),

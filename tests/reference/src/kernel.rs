@@ -1,4 +1,5 @@
-//! The two kernels: document 01, "Grid definitions".
+//! The three kernels: document 01, "Grid definitions", and document 02, request
+//! (i), the overlap.
 
 use crate::file::Problem;
 
@@ -6,22 +7,48 @@ use crate::file::Problem;
 pub enum Kernel {
     Linear,
     Square,
+    Overlap,
 }
 
+/// What the overlap raises every feature by.
+const RAISE: i32 = 127;
+
 impl Kernel {
-    /// K of two lists of d features. Linear: the sum of products. Square: that
-    /// sum plus 1, squared.
-    pub fn value(self, left: &[i8], right: &[i8]) -> i128 {
-        let sum = left
-            .iter()
-            .zip(right)
-            .map(|(&l, &r)| i128::from(i32::from(l) * i32::from(r)))
-            .sum::<i128>();
-        match self {
-            Kernel::Linear => sum,
-            Kernel::Square => (sum + 1) * (sum + 1),
+    pub const ALL: [Kernel; 3] = [Kernel::Linear, Kernel::Square, Kernel::Overlap];
+
+    /// The kernel that a header's byte names: "0 linear, 1 square", and "the
+    /// header's kernel byte now allows 2 as well".
+    pub fn numbered(number: u64) -> Option<Kernel> {
+        match number {
+            0 => Some(Kernel::Linear),
+            1 => Some(Kernel::Square),
+            2 => Some(Kernel::Overlap),
+            _ => None,
         }
     }
+
+    /// K of two lists of d features. Linear: the sum of products. Square: that
+    /// sum plus 1, squared. Overlap: "the sum over the first d features of the
+    /// smaller of the two values, each first raised by 127".
+    pub fn value(self, left: &[i8], right: &[i8]) -> i128 {
+        match self {
+            Kernel::Linear => products(left, right),
+            Kernel::Square => (products(left, right) + 1).pow(2),
+            Kernel::Overlap => sum(left, right, |l, r| (l + RAISE).min(r + RAISE)),
+        }
+    }
+}
+
+fn products(left: &[i8], right: &[i8]) -> i128 {
+    sum(left, right, |l, r| l * r)
+}
+
+/// The sum, over the places of two lists, of what the features there give.
+fn sum(left: &[i8], right: &[i8], gives: impl Fn(i32, i32) -> i32) -> i128 {
+    let places = left.iter().zip(right);
+    places
+        .map(|(&l, &r)| i128::from(gives(l.into(), r.into())))
+        .sum()
 }
 
 /// K_ij for all items. The values never change during a training, so they are

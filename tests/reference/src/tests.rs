@@ -3,6 +3,7 @@
 
 mod ceilings;
 mod chains;
+mod overlap;
 mod samples;
 
 use crate::certify::thresholds_of;
@@ -45,6 +46,20 @@ fn assert_trained(
     assert_eq!(left, multipliers);
     assert_eq!(certify(&draft.plain(), &left), Ok((lower, upper)));
     assert!(gradient.contains(&lower) && gradient.contains(&upper));
+}
+
+/// A case, and whether what was drawn for a file shows it.
+type Case<Drawn> = (&'static str, fn(&Drawn) -> bool);
+
+/// A comparison that hardly meets a case shows little of it: each is one file in
+/// two hundred.
+fn assert_frequent<Drawn>(cases: &[Case<Drawn>], numbered: impl Fn(u64) -> Option<Drawn>) {
+    const FILES: u64 = 2_000;
+    let drawn: Vec<Drawn> = (0..FILES).filter_map(numbered).collect();
+    for (case, shows) in cases {
+        let count = drawn.iter().filter(|drawn| shows(drawn)).count() as u64;
+        assert!(200 * count >= FILES, "{case}: {count} of {FILES}");
+    }
 }
 
 #[test]
@@ -131,8 +146,13 @@ fn one_word_in_fifty_is_on_a_line() {
     assert!(50 * counted >= WORDS, "{counted} of {WORDS}");
 }
 
-/// A mirror is its own inverse, keeps every kernel value, and gives words that
-/// are their own image.
+/// η of two lists of features.
+fn eta(kernel: Kernel, x: &[i8], z: &[i8]) -> i128 {
+    kernel.value(x, x) + kernel.value(z, z) - 2 * kernel.value(x, z)
+}
+
+/// A mirror is its own inverse, keeps η of any two with every kernel, and gives
+/// words that are their own image.
 #[test]
 fn mirrors_reflect() {
     let random = &mut Random::new(7);
@@ -142,9 +162,9 @@ fn mirrors_reflect() {
             let mut draw = || -> Vec<i8> { (0..features).map(|_| any_feature(random)).collect() };
             let (x, z) = (draw(), draw());
             assert_eq!(mirror.image(&mirror.image(&x)), x);
-            for kernel in [Kernel::Linear, Kernel::Square] {
-                let images = kernel.value(&mirror.image(&x), &mirror.image(&z));
-                assert_eq!(images, kernel.value(&x, &z));
+            for kernel in Kernel::ALL {
+                let images = eta(kernel, &mirror.image(&x), &mirror.image(&z));
+                assert_eq!(images, eta(kernel, &x, &z));
             }
             let own = mirror.own_image(&x);
             assert_eq!(mirror.image(&own), own);
@@ -232,8 +252,9 @@ fn reading_gives_the_order_as_far_as_the_table_goes() {
         assert_eq!(found, Ok(both_items));
         assert_eq!(order, left);
     }
-    let square = contents(&p8().plain(), &mut []).map(|read| read.kernel);
-    assert_eq!(square, Ok(Kernel::Square));
+    let kernel = |draft: Draft| contents(&draft.plain(), &mut []).map(|read| read.kernel);
+    assert_eq!(kernel(p8()), Ok(Kernel::Square));
+    assert_eq!(kernel(i1()), Ok(Kernel::Overlap));
 }
 
 #[test]

@@ -1,12 +1,12 @@
-//! Demand 3 of the request, with the bound of document 02, request (f), tried on
-//! files so small that every list of feasible multipliers can be gone through. It
-//! is a check of the reference against something that the reference does not use:
-//! the whole grid.
+//! Demand 3 of the request, with the bound of document 02, request (f), and the
+//! three kernels, tried on files so small that every list of feasible multipliers
+//! can be gone through. It is a check of the reference against something that the
+//! reference does not use: the whole grid.
 
 use reference::file::{read, Problem};
 use reference::generate::{tiny, Random};
 use reference::gradient::{gradient, objective};
-use reference::kernel::{table, Table};
+use reference::kernel::{table, Kernel, Table};
 use reference::thresholds::{thresholds, Thresholds};
 use reference::{run, Ending};
 
@@ -15,9 +15,14 @@ const FINEST: i128 = 2;
 
 fn files(seed: u64) -> Vec<Problem> {
     let mut random = Random::new(seed);
-    (0..FILES)
+    let files: Vec<Problem> = (0..FILES)
         .map(|_| read(&tiny(&mut random)).expect("accepted"))
-        .collect()
+        .collect();
+    for kernel in Kernel::ALL {
+        let with_kernel = files.iter().filter(|file| file.parameters.kernel == kernel);
+        assert!(4 * with_kernel.count() > FILES, "the files must show it");
+    }
+    files
 }
 
 /// All whole numbers v with the sum of v_i × y_i equal to 0 and v_i from 0 to m'

@@ -6,14 +6,13 @@ use native.Mathlib.Omega.{arith}
 use Rattle.training_file.specs.declared.parameters.Parameters.{Parameters}
 use Rattle.training_file.specs.declared.item.Item.{Item}
 use Rattle.training_file.specs.declared.refusal.Refusal.{Refusal}
-use Rattle.training_file.specs.Refusal.{refusal}
 use Rattle.reading.specs.declared.reader.FileAnswer.the-variants as file-answer
 use Rattle.reading.specs.Reading.{Reading, refused, accepted, reading}
 use Rattle.reading.specs.Calls.{itemsIn, fileAnswer}
 use Rattle.dual_problem.specs.Problem.{problem}
 use Rattle.dual_problem.specs.Problem.Laws.{problem-gram}
 use Rattle.dual_problem.specs.Items.{at, problemOf}
-use Rattle.dual_problem.specs.Items.Laws.Read.{Read, labels-present}
+use Rattle.dual_problem.specs.Items.Laws.Read.{Read, features-in-range, labels-present}
 use Rattle.dual_problem.specs.Problem.Laws.Distance.{bounded-distance}
 use Rattle.certifying.specs.declared.certify.Certified.the-variants.{Refused}
 use Rattle.certifying.specs.declared.multipliers.Judgement.{Judgement}
@@ -29,7 +28,7 @@ certified-distance file a = by-reading (reading file) refl
     by : (p : Parameters) (order : List ℕ) (items : List Item) → reading file ≡ accepted p order items → (j : Judgement) → judgement (problem p items) a ≡ j → CertifiedDistance (accepted p order items) a (certifyJudged (problem p items) a j)
     by p order items r (judged.Refused why) e = tt
     by p order items r judged.Feasible e =
-        bounded-distance (problem p items) (problem-gram p items) (labels-present file p order items r) (at a) (judgement-feasible (problem p items) a e .1)
+        bounded-distance (problem p items) (problem-gram p items (features-in-range file p order items r)) (labels-present file p order items r) (at a) (judgement-feasible (problem p items) a e .1)
 
     by-reading : (r : Reading) → reading file ≡ r → CertifiedDistance r a (certifyRead r a)
     by-reading (refused why) e = tt

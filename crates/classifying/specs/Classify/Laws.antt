@@ -21,7 +21,7 @@ use Rattle.training_file.specs.Refusal.{refusal}
 use Rattle.reading.specs.declared.reader.FileAnswer.the-variants as file-answer
 use Rattle.reading.specs.Reading.{Reading, refused, accepted, reading}
 use Rattle.reading.specs.Calls.{itemIn, itemsIn, fileAnswer}
-use Rattle.dual_problem.specs.Kernel.{kernelValue}
+use Rattle.dual_problem.specs.Kernel.{kernelBetween}
 use Rattle.dual_problem.specs.Kernel.Laws.{kernelValue-comm, kernelValue-cong}
 use Rattle.dual_problem.specs.Problem.{LabelsPresent, problem}
 use Rattle.dual_problem.specs.Problem.Laws.Zeros.{b-low-zeros, b-up-zeros, zeros-weighed}
@@ -41,7 +41,7 @@ use Rattle.classifying.specs.Classify.{SameFeatures, classOf, classifyIt
 
 -- ---- the kernel
 -- a list with the word's features, compared with an item, gives K of the item and the word
-pub wordKernel-is : (p : Parameters) (items : List Item) (xs word : List ℤ) → SameFeatures xs word → (i : ℕ) → kernelValue (p .kernel) (p .used) xs (itemIn items i .features) ≡ wordKernel p items word i
+pub wordKernel-is : (p : Parameters) (items : List Item) (xs word : List ℤ) → SameFeatures xs word → (i : ℕ) → kernelBetween p xs (itemIn items i .features) ≡ wordKernel p items word i
 wordKernel-is p items xs word e i =
     kernelValue-cong (p .kernel) (p .used) xs word (itemIn items i .features) e ∙ kernelValue-comm (p .kernel) (p .used) word (itemIn items i .features)
 

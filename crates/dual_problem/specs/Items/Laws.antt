@@ -8,6 +8,7 @@ use Prim.Native.Nat.{ℕ, _+_, _*_, _≤_, _<_}
 use native.Mathlib.Nat.{le-refl, le-trans, mul-le-mul, mul-le-mul-right}
 use native.Mathlib.Omega.{arith}
 use lib.IntN.{ℤ, pos, negsuc, natAbs, _-ℤ_, _*ℤ_}
+use lib.ListN.{getD}
 use lib.Signed.{ltZ}
 use Rattle.integers.specs.Bounds.{*ℤ-bound, -ℤ-bound, sum-bound}
 use Rattle.integers.specs.Extremum.{extreme, valueAt}
@@ -20,8 +21,8 @@ use Rattle.training_file.specs.Parameters.{ceilingMost, gridMost, recordsMost}
 use Rattle.training_file.specs.Layout.{featureCount, signedMost}
 use Rattle.reading.specs.Reading.{reading}
 use Rattle.reading.specs.Calls.{itemIn, itemsIn}
-use Rattle.dual_problem.specs.Size.{gapMost, gradientMost, kernelMost, linearMost, termMost}
-use Rattle.dual_problem.specs.Kernel.{largestKernel, largestLinear}
+use Rattle.dual_problem.specs.Size.{featureSumMost, gapMost, gradientMost, kernelMost, termMost}
+use Rattle.dual_problem.specs.Kernel.{largestFeatureSum, largestKernel}
 use Rattle.dual_problem.specs.Kernel.Laws.{kernel-bound}
 use Rattle.dual_problem.specs.Problem.{Problem, sign, y, gap, gradient, notBelowZero, up, low, bUp, bLow}
 use Rattle.dual_problem.specs.Items.{Listed, MultipliersListed, at, problemOf}
@@ -32,14 +33,18 @@ sign-size PassedOver = le-refl 1
 
 -- a kernel value of d features is at most one of more
 more-features : {d : ℕ} → d ≤ featureCount → largestKernel d signedMost ≤ kernelMost
-more-features {d} h = let k : largestLinear d signedMost + 1 ≤ linearMost + 1 = omega arith in mul-le-mul k k
+more-features {d} h = let k : largestFeatureSum d signedMost + 1 ≤ featureSumMost + 1 = omega arith in mul-le-mul k k
 
 module _ (file order : List ℕ) (n : ℕ) (p : Parameters) where
   pub kernel-size : Listed file order n → p .used ≤ featureCount → (i j : ℕ) → i < n → j < n → natAbs (problemOf file p .kernel i j) ≤ kernelMost
   kernel-size t h i j l m =
       le-trans
-      (kernel-bound signedMost (p .used) (itemIn (itemsIn (reading file)) i .features) (itemIn (itemsIn (reading file)) j .features) (λ q k. t .sized i l q) (λ q k. t .sized j m q) (p .kernel))
+      (kernel-bound {F = signedMost} (omega arith) (p .used) (itemIn (itemsIn (reading file)) i .features) (itemIn (itemsIn (reading file)) j .features) (λ q k. a-byte i l q) (λ q k. a-byte j m q) (p .kernel))
       (more-features h)
+    where
+      -- a feature in its range is one of 8 bits
+      a-byte : (i : ℕ) → i < n → (q : ℕ) → natAbs (getD (itemIn (itemsIn (reading file)) i .features) q (pos 0)) ≤ signedMost
+      a-byte i l q = le-trans (t .in-range i (omega (arith, t .counted)) q) (omega arith)
 
   pub gradient-size : (a : List ℕ) → MultipliersListed file order n p a → (i : ℕ) → i < n → natAbs (gradient (problemOf file p) (at a) i) ≤ gradientMost
   unfolding gradient

@@ -20,6 +20,7 @@ use Rattle.training_file.specs.declared.item.Item.{Item}
 use Rattle.training_file.specs.declared.item.Label.{Label}
 use Rattle.training_file.specs.declared.item.Label.the-variants.{LookedUp, PassedOver}
 use Rattle.reading.specs.Calls.{itemIn}
+use Rattle.dual_problem.specs.Kernel.{FeaturesInRange}
 use Rattle.dual_problem.specs.Kernel.Laws.{kernel-gram}
 use Rattle.dual_problem.specs.Problem.{Problem, problem, sign, y, gradient, doubleSum, objective, finerObjective}
 
@@ -93,5 +94,5 @@ module _ (P : Problem) where
         ∙ ap (λ z. pos (m * m) *ℤ objective P a +ℤ (quadratic (P .count) (P .kernel) u +ℤ pos 2 *ℤ pos m *ℤ z)) (sym gradient-weighed)
 
 -- the kernel values of any items are a Gram form
-pub problem-gram : (p : Parameters) (items : List Item) → Gram (problem p items .count) (problem p items .kernel)
-problem-gram p items = kernel-gram (p .kernel) (length items) (p .used) (λ i. itemIn items i .features)
+pub problem-gram : (p : Parameters) (items : List Item) → FeaturesInRange (length items) (λ i. itemIn items i .features) → Gram (problem p items .count) (problem p items .kernel)
+problem-gram p items range = kernel-gram (p .kernel) (length items) (p .used) (λ i. itemIn items i .features) range

@@ -45,7 +45,7 @@ reading-listed file table long = by (reading file) refl
     by : (r : Reading) → reading file ≡ r → Listed file (tableAfter (reading file) table) (length (itemsIn (reading file)))
     by (refused why) e =
         let none : length (itemsIn (reading file)) ≡ 0 = ap (λ x. length (itemsIn x)) e in
-        record { few = omega arith; counted = refl; tabled = λ i l. absurd (omega arith); sized = λ i l. absurd (omega arith) }
+        record { few = omega arith; counted = refl; tabled = λ i l. absurd (omega arith); in-range = λ i l. absurd (omega arith) }
     by (accepted p order items) e =
         let r : Read file p (length (itemsIn (reading file))) = record { order = order; items = items; is = e; counted = ap (λ x. length (itemsIn x)) e } in
         read-listed r table long

@@ -49,7 +49,7 @@ module _ {file order : List ℕ} {n : ℕ} {p : Parameters} {a : List ℕ} {g : 
   items = itemsIn (reading file)
 
   gram : Gram (P .count) (P .kernel)
-  gram = problem-gram p items
+  gram = problem-gram p items (state .listed .table .in-range)
 
   all-items : n ≡ P .count
   all-items = state .listed .table .counted

@@ -24,7 +24,7 @@ use Rattle.dual_problem.specs.Problem.Laws.{problem-gram}
 use Rattle.dual_problem.specs.Problem.Laws.Same.{gradient-cong, b-up-cong, b-low-cong}
 use Rattle.dual_problem.specs.Problem.Laws.Zeros.{zeros-feasible}
 use Rattle.dual_problem.specs.Items.{at, problemOf}
-use Rattle.dual_problem.specs.Items.Laws.Read.{Read, labels-present}
+use Rattle.dual_problem.specs.Items.Laws.Read.{Read, features-in-range, labels-present}
 use Rattle.smo.specs.Run.{run, training}
 use Rattle.smo.specs.Run.Meaning.{Sound}
 use Rattle.smo.specs.Run.Laws.{zeros, zeros-length, training-length, training-sound}
@@ -83,7 +83,7 @@ module _ (P : Problem) (l : List ℕ) (long : P .count ≤ length l) where
 pub accepted-sound : (file : List ℕ) (p : Parameters) (order : List ℕ) (items : List Item) → reading file ≡ accepted p order items
     → Sound (problem p items) (p .tolerance) (p .budget) (training (problem p items) (p .tolerance) (p .budget))
 accepted-sound file p order items e =
-    training-sound (problem p items) (problem-gram p items) (labels-present file p order items e) (p .tolerance) (p .budget)
+    training-sound (problem p items) (problem-gram p items (features-in-range file p order items e)) (labels-present file p order items e) (p .tolerance) (p .budget)
 
 pub training-quality : (file a : List ℕ) (g : List ℤ) → TrainingQuality (reading file) (trainFile file a g .answer) (trainFile file a g .multipliers)
 training-quality file a g = by-reading (reading file) refl

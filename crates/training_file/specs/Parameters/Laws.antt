@@ -8,7 +8,7 @@ use borrow.Author.Tests.{leb-true, eqb-true, eqb-false}
 use Rattle.integers.specs.Test.{&&-both, chose-first, chose-second}
 use Rattle.training_file.specs.declared.refusal.Refusal.{Refusal}
 use Rattle.training_file.specs.declared.parameters.Kernel.{Kernel}
-use Rattle.training_file.specs.declared.parameters.Kernel.the-variants.{Linear, Square}
+use Rattle.training_file.specs.declared.parameters.Kernel.the-variants.{Linear, Square, Overlap}
 use Rattle.training_file.specs.declared.parameters.KernelAnswer.the-variants.{Refused, Known}
 use Rattle.training_file.specs.declared.parameters.Parameters.{Parameters}
 use Rattle.training_file.specs.Layout.{featureCount}
@@ -72,17 +72,24 @@ module _ (p : Parameters) where
 pub kernel-byte-allowed : (kernel : Kernel) → kernelAllowed (byteOfKernel kernel) ≡ true
 kernel-byte-allowed Linear = refl
 kernel-byte-allowed Square = refl
+kernel-byte-allowed Overlap = refl
 
 pub kernel-back : (kernel : Kernel) → kernelOfByte (byteOfKernel kernel) ≡ kernel
 kernel-back Linear = refl
 kernel-back Square = refl
+kernel-back Overlap = refl
 
 pub kernel-byte-back : (byte : ℕ) → kernelAllowed byte ≡ true → byteOfKernel (kernelOfByte byte) ≡ byte
-kernel-byte-back byte h = by (eqb byte 0) refl
+kernel-byte-back byte h = by (eqb byte 0) (eqb byte 1) refl refl
   where
-    by : (t : Bool) → eqb byte 0 ≡ t → byteOfKernel (kernelOfByte byte) ≡ byte
-    by true e = rw e (sym (eqb-true byte 0 e))
-    by false e = let other = eqb-false byte 0 e in let range = leb-true byte 1 h in rw e (omega arith)
+    by : (s t : Bool) → eqb byte 0 ≡ s → eqb byte 1 ≡ t → byteOfKernel (kernelOfByte byte) ≡ byte
+    by true t e f = rw e (sym (eqb-true byte 0 e))
+    by false true e f = rw (e, f) (sym (eqb-true byte 1 f))
+    by false false e f =
+        let not-linear = eqb-false byte 0 e in
+        let not-square = eqb-false byte 1 f in
+        let range = leb-true byte 2 h in
+        rw (e, f) (omega arith)
 
 -- ---- what an answer says of the byte
 

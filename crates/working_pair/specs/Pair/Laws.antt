@@ -11,8 +11,8 @@ use Rattle.training_file.specs.declared.item.Item.{Item}
 use Rattle.reading.specs.Reading.{reading}
 use Rattle.reading.specs.Calls.{itemIn, itemsIn}
 use Rattle.dual_problem.specs.Size.{kernelMost}
+use Rattle.dual_problem.specs.Kernel.{kernelBetween}
 use Rattle.dual_problem.specs.Kernel.Laws.{kernel-reads}
-use Rattle.working_pair.specs.Curvature.{kernelBetween}
 use Rattle.working_pair.specs.Pair.{Held}
 
 -- k is K of the item x and itself, as it was worked out; its bits are what is held

@@ -4,23 +4,26 @@
 //! `files.bin` holds, for each file, its length as two bytes, little endian, and
 //! then its bytes. `listings.txt` holds, for each file, the line `file K`, K
 //! from 1, and then what the training program prints for it. `K.log` is the file
-//! alone. The last file takes 70,880 steps; all others together take a few thousand.
+//! alone. The last file takes 70,880 steps; all others together take fewer than 2,000.
 
 use reference::examples::{
-    full_chain, largest_totals, long_run, run_only, second_ceilings, settled, three_records,
+    full_chain, largest_overlap, largest_totals, long_run, overlaps, run_only, second_ceilings,
+    settled, three_records,
 };
 use reference::generate::chains::{with_next, HIGHEST_NEXT};
+use reference::generate::draft::{LINEAR, OVERLAP, SQUARE};
 use reference::generate::{
-    broken, causes, damaged, every_chain, noise, small, sound, sound_with, with_relinked_spares,
-    Random,
+    broken, causes, damaged, every_chain, noise, small, sound, sound_with_kernel,
+    with_relinked_spares, Random,
 };
+use reference::kernel::Kernel;
 use reference::{file, listing, run, Refusal, Run};
 use std::collections::BTreeMap;
 use std::path::Path;
 
 const SEED: u64 = 20_261_115;
-const SOUND: usize = 220;
-const LARGEST: usize = 10;
+const SOUND: usize = 213;
+const LARGEST: usize = 12;
 const DAMAGED: usize = 70;
 const NOISE: usize = 20;
 /// Small files, so that the stored ones stay few bytes.
@@ -52,9 +55,10 @@ fn files() -> Vec<Vec<u8>> {
     files.push(three_records());
     files.extend(run_only());
     files.extend(second_ceilings());
+    files.extend(overlaps());
     files.extend(thinned(causes(random)));
+    files.extend(largest(random));
     files.extend((0..SOUND).map(|_| sound(random)));
-    files.extend((0..LARGEST).map(|_| sound_with(random, file::MOST_RECORDS)));
     for _ in 0..DAMAGED {
         let whole = sound(random);
         files.push(damaged(&whole, random));
@@ -63,6 +67,17 @@ fn files() -> Vec<Vec<u8>> {
     files.extend(chains(random));
     files.push(largest_totals().plain());
     files.push(long_run().plain());
+    files
+}
+
+/// Files of as many items as can be, drawn ones with the three kernels by turns.
+/// They come ahead of other files of their length: the benchmark takes the longest
+/// files, and of those that tie the first by name.
+fn largest(random: &mut Random) -> Vec<Vec<u8>> {
+    let mut files = vec![largest_overlap().plain()];
+    let kernels = [LINEAR, SQUARE, OVERLAP].into_iter().cycle();
+    let drawn = |kernel| sound_with_kernel(random, file::MOST_RECORDS, kernel);
+    files.extend(kernels.take(LARGEST).map(drawn));
     files
 }
 
@@ -150,10 +165,12 @@ fn print_shapes(files: &[Vec<u8>]) {
         .iter()
         .filter_map(|bytes| file::read(bytes).ok())
         .collect();
-    let square = problems
-        .iter()
-        .filter(|problem| problem.parameters.kernel == reference::kernel::Kernel::Square)
-        .count();
+    let kernels = Kernel::ALL.map(|kernel| {
+        let of_kernel = problems
+            .iter()
+            .filter(|problem| problem.parameters.kernel == kernel);
+        of_kernel.count()
+    });
     let largest = problems
         .iter()
         .filter(|problem| problem.items.len() == file::MOST_RECORDS)
@@ -165,10 +182,8 @@ fn print_shapes(files: &[Vec<u8>]) {
         .flat_map(|run| &run.steps)
         .filter(|step| step.pair.fallback)
         .count();
-    println!(
-        "linear {}, square {square}, n = 256 {largest}",
-        problems.len() - square
-    );
+    let [linear, square, overlap] = kernels;
+    println!("linear {linear}, square {square}, overlap {overlap}, n = 256 {largest}");
     println!("steps {steps}, of fallback pairs {fallback}");
     let most = problems
         .iter()

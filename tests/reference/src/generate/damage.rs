@@ -2,7 +2,7 @@
 //! of the file provoked by each of its causes.
 
 use super::chains::{chain, records, with_next};
-use super::draft::{any_feature, Draft, LOOKED_UP, NO_FEATURE, PASSED_OVER};
+use super::draft::{any_feature, Draft, LINEAR, LOOKED_UP, NO_FEATURE, PASSED_OVER};
 use super::random::Random;
 use super::with;
 use crate::file::{
@@ -137,7 +137,7 @@ impl Base {
         let mut features = || (0..3).map(|_| any_feature(random)).collect();
         let draft = Draft {
             features: 3,
-            kernel: 0,
+            kernel: LINEAR,
             units: 1_000,
             ceiling: 50,
             tolerance: 0,
@@ -177,7 +177,7 @@ impl Base {
         let at = |start: usize, bytes: &[u8]| with(&self.file, start, bytes);
         let mut files = vec![at(2, &[7, 0]), at(2, &[255, 255]), at(2, &[4, 1])];
         files.extend([0, 17, 255].map(|d| at(4, &[d])));
-        files.extend([2, 255].map(|kernel| at(5, &[kernel])));
+        files.extend([3, 255].map(|kernel| at(5, &[kernel])));
         files.extend([6, 7].map(|spare| at(spare, &[1])));
         files.extend([6, 7].map(|spare| at(spare, &[128])));
         files.extend([0, 1_048_577, u32::MAX].map(|units: u32| at(8, &units.to_le_bytes())));

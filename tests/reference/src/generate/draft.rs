@@ -7,6 +7,11 @@ use crate::file::{record_start, HEADER_BYTES, HIGHEST_FEATURE, LOWEST_FEATURE, R
 pub const LOOKED_UP: u8 = 1;
 pub const PASSED_OVER: u8 = 2;
 
+/// Kernel bytes of the file.
+pub const LINEAR: u8 = 0;
+pub const SQUARE: u8 = 1;
+pub const OVERLAP: u8 = 2;
+
 /// The one signed byte that no feature may be.
 pub const NO_FEATURE: i8 = -128;
 
@@ -18,7 +23,6 @@ pub fn any_feature(random: &mut Random) -> i8 {
 pub struct Draft {
     /// d.
     pub features: u8,
-    /// 0 linear, 1 square.
     pub kernel: u8,
     /// S.
     pub units: u32,

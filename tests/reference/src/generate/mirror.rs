@@ -1,11 +1,13 @@
-//! Mirrors: reflections of the features that leave every kernel value as it is, so
-//! that K of two images is K of the two.
+//! Mirrors: reflections of the features that leave η as it is, so that η of two
+//! images is η of the two, with each of the three kernels. The linear and the
+//! square kernel keep K itself; the overlap need not.
 //!
 //! Where items come in pairs, an item and its image with the other label, and both
-//! of each pair have one multiplier, the sum over the items changes its sign from
-//! a word to its image, and G from an item to its image. So the thresholds are
-//! opposite numbers, if no multiplier is at one label's ceiling alone, and a word
-//! that is its own image has a score of exactly 0.
+//! of each pair have one multiplier, the sum over the items of a × y × K, for a
+//! word and for its image, adds up to one number C for all words, and so does G
+//! of an item and of its image. So the thresholds add up to C, if no multiplier
+//! is at one label's ceiling alone, and a word that is its own image has a score
+//! of exactly 0.
 
 use super::random::Random;
 use crate::file::Problem;

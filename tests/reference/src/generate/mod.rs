@@ -14,8 +14,9 @@ use crate::examples;
 pub use chains::{broken, every_chain, with_relinked_spares};
 pub use damage::{causes, damaged, every_damage};
 pub use draft::Draft;
+use draft::{LINEAR, OVERLAP, SQUARE};
 pub use random::Random;
-pub use sound::{small, sound, sound_with, tiny};
+pub use sound::{small, small_with_kernel, sound, sound_with_kernel, tiny};
 
 /// A file of any kind: most are accepted, some of them mirrored; some are
 /// damaged, a tenth in the chain; a few are noise.
@@ -69,19 +70,20 @@ fn longest(random: &mut Random) -> Vec<u8> {
 /// What must be met in each comparison, whatever the seed: the longest training
 /// and the longest chains, the settled examples, those run only and our own,
 /// every cause of a refusal, every chain of one to three records, those of two
-/// also beside another fault, and small files with every damage of
-/// `every_damage`.
+/// also beside another fault, and a small file of each kernel with every damage
+/// of `every_damage`.
 pub fn systematic(random: &mut Random) -> Vec<Vec<u8>> {
     let mut files = vec![examples::long_run().plain(), longest(random)];
     files.extend(chains::full_chains());
     files.extend(examples::settled());
     files.extend(examples::run_only());
     files.extend(examples::second_ceilings());
+    files.extend(examples::overlaps());
     files.extend(causes(random).into_iter().map(|(_, file)| file));
     files.extend([1, 2, 3].into_iter().flat_map(every_chain));
     files.extend(chains::every_chain_beside_a_fault());
-    for items in [2, 3, 4] {
-        let file = small(random, items);
+    for (items, kernel) in [(2, LINEAR), (3, SQUARE), (4, OVERLAP)] {
+        let file = small_with_kernel(random, items, kernel);
         files.extend(every_damage(&file, random).into_iter().map(sound::tamed));
     }
     files

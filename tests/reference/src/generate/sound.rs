@@ -1,7 +1,7 @@
 //! Accepted training files, with weight on the ends of every range, on ties, on
 //! copies of items (η = 0) and on budgets that run out just at the ending.
 
-use super::draft::{Draft, LOOKED_UP, PASSED_OVER};
+use super::draft::{Draft, LINEAR, LOOKED_UP, OVERLAP, PASSED_OVER, SQUARE};
 use super::mirror::Mirror;
 use super::random::Random;
 use crate::file::{
@@ -57,7 +57,7 @@ fn heavy(random: &mut Random) -> Vec<u8> {
     let items = (0..items).map(&mut item).collect();
     let draft = Draft {
         features: 16,
-        kernel: 1,
+        kernel: SQUARE,
         units: random.spread(MOST_UNITS) as u32,
         ceiling: (HIGHEST_CEILING - random.below(3)) as u32,
         tolerance: 0,
@@ -69,8 +69,14 @@ fn heavy(random: &mut Random) -> Vec<u8> {
 }
 
 /// An accepted file of so many items.
-pub fn sound_with(random: &mut Random, items: usize) -> Vec<u8> {
-    let draft = draft(random, items);
+fn sound_with(random: &mut Random, items: usize) -> Vec<u8> {
+    let kernel = any_kernel(random);
+    sound_with_kernel(random, items, kernel)
+}
+
+/// An accepted file of so many items, with a kernel by its number.
+pub fn sound_with_kernel(random: &mut Random, items: usize, kernel: u8) -> Vec<u8> {
+    let draft = draft_with_kernel(random, items, kernel);
     let work = if random.chance(1, 60) {
         LONG_WORK
     } else {
@@ -100,7 +106,13 @@ pub fn mirrored(random: &mut Random) -> Vec<u8> {
 
 /// An accepted file of few items, shuffled among a few spare records.
 pub fn small(random: &mut Random, items: usize) -> Vec<u8> {
-    let mut draft = draft(random, items);
+    let kernel = any_kernel(random);
+    small_with_kernel(random, items, kernel)
+}
+
+/// Such a file with a kernel by its number.
+pub fn small_with_kernel(random: &mut Random, items: usize, kernel: u8) -> Vec<u8> {
+    let mut draft = draft_with_kernel(random, items, kernel);
     draft.features = draft.features.min(8);
     draft
         .items
@@ -136,8 +148,16 @@ fn item_count(random: &mut Random) -> usize {
 }
 
 fn draft(random: &mut Random, items: usize) -> Draft {
+    let kernel = any_kernel(random);
+    draft_with_kernel(random, items, kernel)
+}
+
+fn any_kernel(random: &mut Random) -> u8 {
+    random.pick(&[LINEAR, SQUARE, OVERLAP])
+}
+
+fn draft_with_kernel(random: &mut Random, items: usize, kernel: u8) -> Draft {
     let features = feature_count(random);
-    let kernel = random.below(2) as u8;
     let style = Style::draw(random, kernel);
     let items = labelled_items(random, items, features, &style);
     let mut draft = Draft {
@@ -285,13 +305,20 @@ enum Style {
     Scales(i64),
     /// All items alike, so that every η is 0.
     Alike(i8),
+    /// Only k and k + 1, which with the overlap differ as little as can be.
+    Neighbours(i64),
 }
 
 impl Style {
     /// The square kernel gets small features in most files: with large ones η
-    /// is so far above S that nothing ever moves.
+    /// is so far above S that nothing ever moves. The overlap gets neighbours in
+    /// some, anywhere in the range and at its ends.
     fn draw(random: &mut Random, kernel: u8) -> Style {
-        let small = kernel == 1 && random.chance(3, 4);
+        if kernel == OVERLAP && random.chance(1, 8) {
+            let anywhere = random.between(LOWEST, HIGHEST - 1);
+            return Style::Neighbours(random.pick(&[LOWEST, HIGHEST - 1, anywhere]));
+        }
+        let small = kernel == SQUARE && random.chance(3, 4);
         let most = if small { 6 } else { HIGHEST };
         match random.below(12) {
             0 | 1 => Style::Within(most),
@@ -323,6 +350,7 @@ impl Style {
             }
             Style::Scales(most) => random.between(-scale.min(most), scale.min(most)),
             Style::Alike(value) => value.into(),
+            Style::Neighbours(lower) => random.between(lower, lower + 1),
         };
         value as i8
     }

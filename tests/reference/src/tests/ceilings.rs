@@ -1,7 +1,7 @@
 //! Document 02, request (f): the second ceiling, our own examples of it, and how
 //! often each case of two ceilings is drawn.
 
-use super::assert_trained;
+use super::{assert_frequent, assert_trained, Case};
 use crate::certify::{judge_count, judge_feasible};
 use crate::examples::{f1, f2, f3, f4, f6, p1, p2};
 use crate::file::{read, Label, Problem, HIGHEST_CEILING};
@@ -162,10 +162,8 @@ impl Drawn {
     }
 }
 
-type Case = (&'static str, fn(&Drawn) -> bool);
-
 /// What of request (f) a file and multipliers can show.
-const CASES: [Case; 14] = [
+const CASES: [Case<Drawn>; 14] = [
     ("second ceiling 0", |drawn| drawn.second() == 0),
     ("second ceiling 1", |drawn| drawn.second() == 1),
     ("second ceiling 65,536", |drawn| {
@@ -206,17 +204,7 @@ const CASES: [Case; 14] = [
     }),
 ];
 
-/// A comparison that hardly meets a case shows little of it.
 #[test]
 fn every_case_of_two_ceilings_is_one_file_in_two_hundred() {
-    const FILES: u64 = 2_000;
-    let mut counts = [0; CASES.len()];
-    for drawn in (0..FILES).filter_map(Drawn::numbered) {
-        for (count, (_, shows)) in counts.iter_mut().zip(CASES) {
-            *count += u64::from(shows(&drawn));
-        }
-    }
-    for (count, (case, _)) in counts.into_iter().zip(CASES) {
-        assert!(200 * count >= FILES, "{case}: {count} of {FILES}");
-    }
+    assert_frequent(&CASES, Drawn::numbered);
 }

@@ -1,6 +1,7 @@
 //! Document 02, request (k): chains that break, the record that both faults
 //! carry, and how often each case is drawn.
 
+use super::{assert_frequent, Case};
 use crate::examples::{by_turns, full_chain, p1, three_records};
 use crate::file::{number, read, record_start, MOST_RECORDS};
 use crate::generate::chains::{
@@ -172,8 +173,8 @@ fn every_small_chain_breaks_at_the_record_named() {
 }
 
 /// A walk along the chain of a file that is accepted or refused for its chain.
-struct Walk<'a> {
-    file: &'a [u8],
+struct Walk {
+    file: Vec<u8>,
     m: usize,
     /// 3 or 16, or 0 where the file is accepted.
     refused: u8,
@@ -181,14 +182,15 @@ struct Walk<'a> {
     met: Vec<usize>,
 }
 
-impl Walk<'_> {
-    fn of(file: &[u8]) -> Option<Walk<'_>> {
-        let refused = match read(file) {
+impl Walk {
+    fn numbered(number: u64) -> Option<Walk> {
+        let file = any_file(&mut Random::numbered(1, number));
+        let refused = match read(&file) {
             Ok(_) => 0,
             Err(refusal) if refusal.record.is_some() => refusal.number,
             Err(_) => return None,
         };
-        let (m, met) = (records(file), chain(file));
+        let (m, met) = (records(&file), chain(&file));
         Some(Walk {
             file,
             m,
@@ -202,7 +204,7 @@ impl Walk<'_> {
     }
 
     fn last_next(&self) -> usize {
-        next_of(self.file, self.last())
+        next_of(&self.file, self.last())
     }
 
     /// How many records are in the cycle that refusal 16 names, 0 without one.
@@ -215,21 +217,19 @@ impl Walk<'_> {
     /// of the kind asked for.
     fn spare(&self, kind: impl Fn(usize, usize) -> bool) -> bool {
         let spares = (1..=self.m).filter(|record| !self.met.contains(record));
-        let mut kinds = spares.map(|record| kind(record, next_of(self.file, record)));
+        let mut kinds = spares.map(|record| kind(record, next_of(&self.file, record)));
         self.refused == 0 && kinds.any(|found| found)
     }
 
     /// Whether a record leads through others back to itself.
     fn comes_back(&self, record: usize) -> bool {
-        let met = chain(&with_first(self.file, record));
-        met.len() > 1 && next_of(self.file, met[met.len() - 1]) == record
+        let met = chain(&with_first(&self.file, record));
+        met.len() > 1 && next_of(&self.file, met[met.len() - 1]) == record
     }
 }
 
-type Case = (&'static str, fn(&Walk) -> bool);
-
 /// What of request (k) a file can show.
-const CASES: [Case; 16] = [
+const CASES: [Case<Walk>; 16] = [
     ("3, next m + 1", |walk| {
         walk.refused == 3 && walk.last_next() == walk.m + 1
     }),
@@ -258,11 +258,11 @@ const CASES: [Case; 16] = [
         walk.refused > 0 && walk.met.len() == walk.m
     }),
     ("3 or 16, where 4 or 5 would follow", |walk| {
-        walk.refused > 0 && read(&with_next(walk.file, walk.last(), 0)).is_err()
+        walk.refused > 0 && read(&with_next(&walk.file, walk.last(), 0)).is_err()
     }),
     ("3 or 16, with another fault stored before", |walk| {
         let at_fault = |record: usize| {
-            let next = next_of(walk.file, record);
+            let next = next_of(&walk.file, record);
             next > walk.m || next == record
         };
         walk.refused > 0 && (1..walk.last()).any(at_fault)
@@ -284,20 +284,7 @@ const CASES: [Case; 16] = [
     }),
 ];
 
-/// A comparison that hardly meets a case shows little of it.
 #[test]
 fn every_case_of_a_chain_is_one_file_in_two_hundred() {
-    const FILES: u64 = 2_000;
-    let mut counts = [0; CASES.len()];
-    for number in 0..FILES {
-        let file = any_file(&mut Random::numbered(1, number));
-        if let Some(walk) = Walk::of(&file) {
-            for (count, (_, shows)) in counts.iter_mut().zip(CASES) {
-                *count += u64::from(shows(&walk));
-            }
-        }
-    }
-    for (count, (case, _)) in counts.into_iter().zip(CASES) {
-        assert!(200 * count >= FILES, "{case}: {count} of {FILES}");
-    }
+    assert_frequent(&CASES, Walk::numbered);
 }

@@ -6,7 +6,7 @@ use lib.IntN.{ℤ, pos, natAbs, _*ℤ_, zero-*ℤ}
 use mir.Syntax.{w64}
 use Rattle.integers.specs.Bounds.{reads-back}
 use Rattle.dual_problem.specs.Size.{termMost}
-use Rattle.dual_problem.specs.Kernel.{kernelValue}
+use Rattle.dual_problem.specs.Kernel.{kernelBetween}
 use Rattle.dual_problem.specs.Kernel.Laws.{kernel-reads, kernel-sized}
 use Rattle.dual_problem.specs.Problem.{sign, y}
 use Rattle.dual_problem.specs.Items.{kernelWith, problemOf}
@@ -42,7 +42,7 @@ module _ (c : tie.After-term) where
       let z = c .before .before .fetch .ensures in
       c .term .ensures .0
       ∙ (λ i. pos (s .args .multiplier) *ℤ sign (z i .label) *ℤ kernel-reads (c .before .kernel-value .result) (c .before .kernel-value .ensures .1) i)
-      ∙ (λ i. pos (s .args .multiplier) *ℤ y (problemOf (s .args .file .now) (s .args .parameters)) (s .args .place) *ℤ (c .before .kernel-value .ensures .0 ∙ (λ i. kernelValue (s .args .parameters .kernel) (s .args .parameters .used) (s .args .x .features) (z i .features))) i)
+      ∙ (λ i. pos (s .args .multiplier) *ℤ y (problemOf (s .args .file .now) (s .args .parameters)) (s .args .place) *ℤ (c .before .kernel-value .ensures .0 ∙ (λ i. kernelBetween (s .args .parameters) (s .args .x .features) (z i .features))) i)
 
   added-size : natAbs added ≤ termMost
   added-size = subst (λ z. natAbs z ≤ termMost) added-is (c .term .ensures .1)

@@ -7,20 +7,20 @@ use Prim.Native.Nat.{ℕ, _≤_}
 use native.Mathlib.Nat.{le-trans, mul-le-mul-right}
 use native.Mathlib.Omega.{arith}
 use lib.IntN.{pos, natAbs}
-use lib.ListN.{length, getD}
+use lib.ListN.{length}
 use Rattle.integers.specs.Bounds.{sum-bound}
 use Rattle.integers.specs.Sum.{sum}
 use Rattle.training_file.specs.declared.parameters.Parameters.{Parameters}
 use Rattle.training_file.specs.declared.item.Item.{Item}
 use Rattle.training_file.specs.declared.item.Label.{Label}
 use Rattle.training_file.specs.Parameters.{Ranges, ceilingMost, recordsMost}
-use Rattle.training_file.specs.Layout.{signedMost}
 use Rattle.reading.specs.declared.reader.FileAnswer.the-variants.{Accepted}
 use Rattle.reading.specs.Reading.{Reading, refused, accepted, reading}
 use Rattle.reading.specs.Reading.Laws.{accepted-is}
 use Rattle.reading.specs.Calls.{itemIn, itemsIn, orderIn, fileAnswer, tableAfter}
 use Rattle.reading.specs.Calls.Laws.{table-serves}
 use Rattle.reading.specs.Reading.Laws.Accepted.{label-at, accepted-ranges, items-counted, items-most, item-features-most}
+use Rattle.dual_problem.specs.Kernel.{FeaturesInRange}
 use Rattle.dual_problem.specs.Problem.{EqualCeilings, LabelsPresent, ceilingOf, problem}
 use Rattle.dual_problem.specs.Problem.Laws.Ceilings.{ceiling-range}
 use Rattle.dual_problem.specs.Size.{ceilingsMost}
@@ -55,6 +55,12 @@ labels-present file p order items e label =
     let k = label-at file p order items a label in
     (k .0, k .1, k .2, ceiling-range p (accepted-ranges file p order items a) (itemIn items (k .0) .label) .0)
 
+-- each item's features are in their range
+pub features-in-range : (file : List ℕ) (p : Parameters) (order : List ℕ) (items : List Item) → reading file ≡ accepted p order items → FeaturesInRange (length items) (λ i. itemIn items i .features)
+features-in-range file p order items e i l q =
+    let a = accepted-is file p order items e in
+    item-features-most file p order items a i (omega (arith, items-counted file p order items a)) q
+
 -- all items have the ceiling c exactly where both labels' ceilings are c
 pub equal-ceilings-exactly : (file : List ℕ) (p : Parameters) (order : List ℕ) (items : List Item) → reading file ≡ accepted p order items
     → (c : ℕ) → EqualCeilings (problem p items) c ↔ ((label : Label) → ceilingOf p label ≡ c)
@@ -88,5 +94,5 @@ module _ {file : List ℕ} {p : Parameters} {n : ℕ} (r : Read file p n) where
         few = omega (arith, r .counted);
         counted = r .counted ∙ ap (λ x. length (itemsIn x)) (sym (r .is));
         tabled = λ i l. table-serves file table i (omega (arith, r .counted)) (omega (arith, r .counted));
-        sized = λ i l q. subst (λ x. natAbs (getD (itemIn (itemsIn x) i .features) q (pos 0)) ≤ signedMost) (sym (r .is)) (le-trans (item-features-most file p (r .order) (r .items) a i (omega (arith, r .counted)) q) (omega arith));
+        in-range = subst (λ x. FeaturesInRange (length (itemsIn x)) (λ i. itemIn (itemsIn x) i .features)) (sym (r .is)) (features-in-range file p (r .order) (r .items) (r .is));
       }

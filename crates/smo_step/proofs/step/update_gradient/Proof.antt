@@ -17,8 +17,8 @@ use Rattle.training_file.specs.declared.item.Item.{Item}
 use Rattle.reading.specs.Reading.{reading}
 use Rattle.reading.specs.Calls.{itemsIn, itemIn}
 use Rattle.dual_problem.specs.Size.{gradientMost, termMost}
+use Rattle.dual_problem.specs.Kernel.{kernelBetween}
 use Rattle.dual_problem.specs.Kernel.Laws.{kernel-reads, kernel-sized}
-use Rattle.working_pair.specs.Curvature.{kernelBetween}
 use Rattle.smo_step.specs.Update.{shifted, updated}
 use Rattle.smo_step.proofs.step.update_gradient.Statement.{statement}
 use Rattle.smo_step.proofs.step.update_gradient.Tie as tie

@@ -9,8 +9,9 @@ use mir.Syntax.{w64}
 use mir.Val.{toZ, ofZ}
 use Rattle.integers.specs.Bounds.{+ℤ-bound, -ℤ-bound, *ℤ-bound, fits-width, reads-back}
 use Rattle.dual_problem.specs.Size.{curvatureMost, kernelMost}
+use Rattle.dual_problem.specs.Kernel.{kernelBetween}
 use Rattle.dual_problem.specs.Kernel.Laws.{kernel-reads}
-use Rattle.working_pair.specs.Curvature.{curvatureBetween, kernelBetween}
+use Rattle.working_pair.specs.Curvature.{curvatureBetween}
 use Rattle.working_pair.proofs.curvature.curvature_with.Statement.{statement}
 use Rattle.working_pair.proofs.curvature.curvature_with.Tie as tie
 

@@ -17,6 +17,7 @@ use Rattle.training_file.specs.declared.parameters.Parameters.{Parameters}
 use Rattle.reading.specs.Reading.{reading}
 use Rattle.reading.specs.Calls.{itemsIn}
 use Rattle.dual_problem.specs.Size.{gradientMost, kernelMost}
+use Rattle.dual_problem.specs.Kernel.{kernelBetween}
 use Rattle.dual_problem.specs.Kernel.Laws.{kernel-reads, kernel-sized}
 use Rattle.dual_problem.specs.Problem.{Problem, gradient}
 use Rattle.dual_problem.specs.Problem.Laws.{problem-gram}
@@ -24,7 +25,7 @@ use Rattle.dual_problem.specs.Items.{at, problemOf}
 use Rattle.dual_problem.specs.Items.Laws.{gradient-size, kernel-size}
 use Rattle.working_pair.specs.Step.{slope, moves}
 use Rattle.working_pair.specs.Step.Laws.{moves-needs-slope}
-use Rattle.working_pair.specs.Curvature.{curvatureBetween, kernelBetween}
+use Rattle.working_pair.specs.Curvature.{curvatureBetween}
 use Rattle.working_pair.specs.Pair.{Held, PairState}
 use Rattle.working_pair.proofs.pair.moves_with.Statement.{statement}
 use Rattle.working_pair.proofs.pair.moves_with.Tie as tie
@@ -69,7 +70,7 @@ module _ {file order : List ℕ} {n : ℕ} {p : Parameters} {a : List ℕ} {g : 
   flat t =
       let i-within : i < P .count = omega (arith, h .i-within, h .state .listed .table .counted) in
       let j-within : j < P .count = omega (arith, h .j-within, h .state .listed .table .counted) in
-      moves-needs-slope P (problem-gram p (itemsIn (reading file))) a i j i-within j-within
+      moves-needs-slope P (problem-gram p (itemsIn (reading file)) (h .state .listed .table .in-range)) a i j i-within j-within
       (leZ-true (gradient P (at a) i) (gradient P (at a) j) (sym (λ d. leZ (read-is i (h .i-within) d) (read-is j (h .j-within) d)) ∙ t))
 
   -- K_ii, as it is held

@@ -31,6 +31,7 @@ pub unsafe extern "C" fn lookahead_read(
             *kernel = match contents.kernel {
                 Kernel::Linear => 0,
                 Kernel::Square => 1,
+                Kernel::Overlap => 2,
             };
             ACCEPTED
         }
