@@ -26,8 +26,8 @@ abbrev pub square : ℕ → List ℤ → List ℤ → ℤ
 square d xs zs = (linear d xs zs +ℤ pos 1) *ℤ (linear d xs zs +ℤ pos 1)
 
 -- "raised by 127": a feature of −127 to 127 becomes a number of 0 to 254
-abbrev pub raised : ℤ → ℤ
-raised feature = feature +ℤ pos featureMost
+abbrev pub raisedFeature : ℤ → ℤ
+raisedFeature feature = feature +ℤ pos featureMost
 
 abbrev pub raisedMost : ℕ
 raisedMost = featureMost + featureMost
@@ -37,7 +37,7 @@ abbrev pub smaller : ℤ → ℤ → ℤ
 smaller a b = cond (leZ a b) a b
 
 abbrev pub smallerRaised : ℤ → ℤ → ℤ
-smallerRaised x z = smaller (raised x) (raised z)
+smallerRaised x z = smaller (raisedFeature x) (raisedFeature z)
 
 -- "Kernel 2 is the sum over the first d features of the smaller of the two values, each first raised by 127."
 abbrev pub overlap : ℕ → List ℤ → List ℤ → ℤ

@@ -8,7 +8,7 @@ ghost use lib.ListN.{length};
 ghost use lib.IntN.{_*ℤ_, natAbs};
 ghost use Rattle.training_file.specs.Layout.{featureCount, signedMost};
 ghost use Rattle.dual_problem.specs.Size.{featureSumMost, kernelMost};
-ghost use Rattle.dual_problem.specs.Kernel.{kernelBetween, overFeatures, raised as raisedOf, smallerRaised, summand as summandOf};
+ghost use Rattle.dual_problem.specs.Kernel.{kernelBetween, overFeatures, raisedFeature, smallerRaised, summand as summandOf};
 use training_file::item::Item;
 use training_file::parameters::Kernel;
 use training_file::parameters::Parameters;
@@ -20,8 +20,8 @@ fn product(x: i8, z: i8) -> i32
 }
 
 // A feature raised by 127, so that the least becomes 0.
-fn raised(feature: i8) -> i32
-    ensures { λ r. ⌜ r ≡ raisedOf feature ⌝ }
+fn raised_feature(feature: i8) -> i32
+    ensures { λ r. ⌜ r ≡ raisedFeature feature ⌝ }
 {
     (feature as i32) + (Item::MAX_FEATURE as i32)
 }
@@ -30,8 +30,8 @@ fn raised(feature: i8) -> i32
 fn smaller_raised(x: i8, z: i8) -> i32
     ensures { λ r. ⌜ r ≡ smallerRaised x z ⌝ }
 {
-    let x = raised(x);
-    let z = raised(z);
+    let x = raised_feature(x);
+    let z = raised_feature(z);
     if x <= z { x } else { z }
 }
 

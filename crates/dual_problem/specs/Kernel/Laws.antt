@@ -21,7 +21,7 @@ use Rattle.training_file.specs.declared.parameters.Kernel.the-variants.{Linear,
 use Rattle.training_file.specs.Item.{featureMost}
 use Rattle.training_file.specs.Layout.{signedMost}
 use Rattle.dual_problem.specs.Size.{kernelMost}
-use Rattle.dual_problem.specs.Kernel.{FeaturesInRange, kernelValue, largestFeatureSum, largestKernel, linear, overFeatures, raised, smallerRaised, summand}
+use Rattle.dual_problem.specs.Kernel.{FeaturesInRange, kernelValue, largestFeatureSum, largestKernel, linear, overFeatures, raisedFeature, smallerRaised, summand}
 use Rattle.dual_problem.specs.Kernel.Laws.Smaller.{overlap-gram, smaller-comm, smaller-either}
 
 -- ---- Gram forms
@@ -46,7 +46,7 @@ module _ (f : ℤ → ℤ → ℤ) (f-comm : (x z : ℤ) → f x z ≡ f z x) wh
 pub kernelValue-comm : (k : Kernel) (d : ℕ) (xs zs : List ℤ) → kernelValue k d xs zs ≡ kernelValue k d zs xs
 kernelValue-comm Linear d xs zs = overFeatures-comm _*ℤ_ *ℤ-comm d xs zs
 kernelValue-comm Square d xs zs = ap (λ v. (v +ℤ pos 1) *ℤ (v +ℤ pos 1)) (overFeatures-comm _*ℤ_ *ℤ-comm d xs zs)
-kernelValue-comm Overlap d xs zs = overFeatures-comm smallerRaised (λ x z. smaller-comm (raised x) (raised z)) d xs zs
+kernelValue-comm Overlap d xs zs = overFeatures-comm smallerRaised (λ x z. smaller-comm (raisedFeature x) (raisedFeature z)) d xs zs
 
 -- what they hold alone counts
 overFeatures-cong : (f : ℤ → ℤ → ℤ) (d : ℕ) (xs ys zs : List ℤ) → ((q : ℕ) → getD xs q (pos 0) ≡ getD ys q (pos 0)) → overFeatures f d xs zs ≡ overFeatures f d ys zs
@@ -62,9 +62,9 @@ module _ {F : ℕ} (raised-fits : F + featureMost ≤ F * F) where
   pub summand-bound : (k : Kernel) (x z : ℤ) → natAbs x ≤ F → natAbs z ≤ F → natAbs (summand k x z) ≤ F * F
   summand-bound Linear x z x-within z-within = *ℤ-bound x z x-within z-within
   summand-bound Square x z x-within z-within = *ℤ-bound x z x-within z-within
-  summand-bound Overlap x z x-within z-within = smaller-either (λ v. natAbs v ≤ F * F) (raised x) (raised z) (λ h. raised-bound x x-within) (λ h. raised-bound z z-within)
+  summand-bound Overlap x z x-within z-within = smaller-either (λ v. natAbs v ≤ F * F) (raisedFeature x) (raisedFeature z) (λ h. raised-bound x x-within) (λ h. raised-bound z z-within)
     where
-      raised-bound : (v : ℤ) → natAbs v ≤ F → natAbs (raised v) ≤ F * F
+      raised-bound : (v : ℤ) → natAbs v ≤ F → natAbs (raisedFeature v) ≤ F * F
       raised-bound v within = le-trans (+ℤ-bound v (pos featureMost) within (le-refl featureMost)) raised-fits
 
   module _ (d : ℕ) (xs zs : List ℤ) (x-within : (p : ℕ) → p < d → natAbs (getD xs p (pos 0)) ≤ F) (z-within : (p : ℕ) → p < d → natAbs (getD zs p (pos 0)) ≤ F) where

@@ -14,7 +14,7 @@ use Rattle.integers.specs.Sum.{sum}
 use Rattle.integers.specs.Sum.Laws.{sum-append, sum-cong, sum-flatten, sum-nonneg, sum-ones, sum-zero}
 use Rattle.integers.specs.Gram.{Gram}
 use Rattle.training_file.specs.Item.{featureMost}
-use Rattle.dual_problem.specs.Kernel.{FeaturesInRange, overlap, raised, raisedMost, smaller, smallerRaised}
+use Rattle.dual_problem.specs.Kernel.{FeaturesInRange, overlap, raisedFeature, raisedMost, smaller, smallerRaised}
 
 -- ---- the smaller of two numbers
 -- what holds of either holds of it
@@ -36,7 +36,7 @@ abbrev pub UpTo : ℕ → ℤ → Type 0
 UpTo N v = (pos 0 ≤ℤ v) × (v ≤ℤ pos N)
 
 -- a raised feature is one of 0 to 254
-raised-range : (x : ℤ) → natAbs x ≤ featureMost → UpTo raisedMost (raised x)
+raised-range : (x : ℤ) → natAbs x ≤ featureMost → UpTo raisedMost (raisedFeature x)
 raised-range x h = (omega (arith, integer, +ℤ-parts x (pos featureMost), natAbs-parts x), omega (arith, integer, +ℤ-parts x (pos featureMost), natAbs-parts x))
 
 -- ---- thresholds: of two numbers of 0 to N the smaller is the number of thresholds of 1 to N that both reach
@@ -91,7 +91,7 @@ overlap-gram n d features range =
     }
   where
     value : ℕ → ℕ → ℤ
-    value i p = raised (getD (features i) p (pos 0))
+    value i p = raisedFeature (getD (features i) p (pos 0))
 
     within : (i : ℕ) → i < n → (p : ℕ) → UpTo raisedMost (value i p)
     within i l p = raised-range (getD (features i) p (pos 0)) (range i l p)
@@ -104,7 +104,7 @@ module _ (d : ℕ) (xs zs : List ℤ) (x-within : (p : ℕ) → natAbs (getD xs 
   added-range : (p : ℕ) → UpTo raisedMost (added p)
   unfolding added
   added-range p =
-      smaller-either (UpTo raisedMost) (raised (getD xs p (pos 0))) (raised (getD zs p (pos 0)))
+      smaller-either (UpTo raisedMost) (raisedFeature (getD xs p (pos 0))) (raisedFeature (getD zs p (pos 0)))
       (λ h. raised-range (getD xs p (pos 0)) (x-within p)) (λ h. raised-range (getD zs p (pos 0)) (z-within p))
 
   added-size : (p : ℕ) → natAbs (added p) ≤ raisedMost

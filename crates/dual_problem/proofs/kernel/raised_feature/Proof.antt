@@ -1,4 +1,4 @@
--- `dual_problem::kernel::raised` meets its contract: an i8 is at most 128 in size, so the sum fits. Assumes nothing.
+-- `dual_problem::kernel::raised_feature` meets its contract: an i8 is at most 128 in size, so the sum fits. Assumes nothing.
 use mathlib.Core.Path.{_≡_, ap}
 use Prim.Native.Nat.{_^_, _<_}
 use native.Mathlib.Nat.{le-refl}
@@ -9,16 +9,16 @@ use mir.Syntax.{w8, w32}
 use mir.Val.{toZ, ofZ, hbits}
 use Rattle.integers.specs.Bounds.{+ℤ-bound, fits-width, reads-back}
 use Rattle.training_file.specs.Item.{featureMost}
-use Rattle.dual_problem.specs.Kernel.{raised}
+use Rattle.dual_problem.specs.Kernel.{raisedFeature}
 use Rattle.dual_problem.specs.Kernel.Laws.{feature-fits, feature-reads, feature-size}
-use Rattle.dual_problem.proofs.kernel.raised.Statement.{statement}
-use Rattle.dual_problem.proofs.kernel.raised.Tie as tie
+use Rattle.dual_problem.proofs.kernel.raised_feature.Statement.{statement}
+use Rattle.dual_problem.proofs.kernel.raised_feature.Tie as tie
 
 module _ (c : tie.Start) where
-  raised-is : toZ w32 (ofZ w32 (toZ w8 (ofZ w8 (c .args .feature)))) +ℤ pos featureMost ≡ raised (c .args .feature)
+  raised-is : toZ w32 (ofZ w32 (toZ w8 (ofZ w8 (c .args .feature)))) +ℤ pos featureMost ≡ raisedFeature (c .args .feature)
   raised-is = ap (λ x. x +ℤ pos featureMost) (feature-reads (c .fits .feature))
 
-  raised-small : natAbs (raised (c .args .feature)) < 2 ^ hbits w32
+  raised-small : natAbs (raisedFeature (c .args .feature)) < 2 ^ hbits w32
   raised-small = omega (arith, +ℤ-bound (c .args .feature) (pos featureMost) (feature-size (c .fits .feature)) (le-refl featureMost))
 
 cast-result : tie.Need-cast-result
@@ -33,5 +33,5 @@ add-result c = fits-width w32 (raised-is c) (raised-small c)
 returns : tie.Need-returns
 returns c = reads-back w32 (raised-is c) (raised-small c)
 
-pub raised-spec : {M : Type 1} → statement M
-raised-spec = tie.close (tie.spec cast-result cast-result-2 add-result returns)
+pub raised-feature-spec : {M : Type 1} → statement M
+raised-feature-spec = tie.close (tie.spec cast-result cast-result-2 add-result returns)
