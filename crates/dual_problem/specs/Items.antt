@@ -44,7 +44,7 @@ pub record Listed (file order : List ℕ) (n : ℕ) : Type 0 where
   pub few : n ≤ recordsMost
   pub counted : n ≡ length (itemsIn (reading file))
   pub tabled : (i : ℕ) → i < n → Tabled file order i
-  pub in-range : FeaturesInRange (length (itemsIn (reading file))) (λ i. itemIn (itemsIn (reading file)) i .features)
+  pub in-range : FeaturesInRange (itemsIn (reading file))
 
 -- besides, d and S are in their ranges, and there is a multiplier for each item, none above the highest ceiling
 pub record MultipliersListed (file order : List ℕ) (n : ℕ) (p : Parameters) (a : List ℕ) : Type 0 where

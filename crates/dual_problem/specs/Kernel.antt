@@ -5,13 +5,15 @@ use mathlib.Core.Bool.{cond}
 use mathlib.Core.List.{List}
 use Prim.Native.Nat.{ℕ, _+_, _*_, _≤_, _<_}
 use lib.IntN.{ℤ, pos, natAbs, _+ℤ_, _*ℤ_}
-use lib.ListN.{getD}
+use lib.ListN.{length, getD}
 use lib.Signed.{leZ}
 use Rattle.integers.specs.Sum.{sum}
 use Rattle.training_file.specs.declared.parameters.Kernel.{Kernel}
 use Rattle.training_file.specs.declared.parameters.Kernel.the-variants.{Linear, Square, Overlap}
 use Rattle.training_file.specs.declared.parameters.Parameters.{Parameters}
+use Rattle.training_file.specs.declared.item.Item.{Item}
 use Rattle.training_file.specs.Item.{featureMost}
+use Rattle.reading.specs.Calls.{itemIn}
 
 -- the sum over the first d features of what f makes of the two values
 abbrev pub overFeatures : (ℤ → ℤ → ℤ) → ℕ → List ℤ → List ℤ → ℤ
@@ -59,9 +61,9 @@ summand Linear x z = x *ℤ z
 summand Square x z = x *ℤ z
 summand Overlap x z = smallerRaised x z
 
--- the features of the first n items are in their range, "−127 to 127": what the kernels' Gram form asks (`kernel-gram`)
-abbrev pub FeaturesInRange : ℕ → (ℕ → List ℤ) → Type 0
-FeaturesInRange n features = (i : ℕ) → i < n → (p : ℕ) → natAbs (getD (features i) p (pos 0)) ≤ featureMost
+-- each item's features are in their range, "−127 to 127": what the kernels' Gram form asks (`kernel-gram`)
+abbrev pub FeaturesInRange : List Item → Type 0
+FeaturesInRange items = (i : ℕ) → i < length items → (p : ℕ) → natAbs (getD (itemIn items i .features) p (pos 0)) ≤ featureMost
 
 -- how large a kernel's sum over d features can be, where none is larger than F, and how large a kernel value, which is the square's
 abbrev pub largestFeatureSum : ℕ → ℕ → ℕ

@@ -7,7 +7,7 @@ use Prim.Native.Nat.{ℕ, _+_, _*_, _≤_, _<_}
 use native.Mathlib.Nat.{le-refl, le-trans}
 use native.Mathlib.Omega.{arith}
 use lib.IntN.{ℤ, pos, natAbs, _+ℤ_, _*ℤ_, *ℤ-comm}
-use lib.ListN.{getD}
+use lib.ListN.{length, getD}
 use lib.Signed.{natAbs-le}
 use mir.Facts.{toZ-ofZ}
 use mir.Syntax.{w8, w32, w64}
@@ -18,24 +18,26 @@ use Rattle.integers.specs.Gram.{Gram}
 use Rattle.integers.specs.Gram.Laws.{gram-one, gram-+, gram-*}
 use Rattle.training_file.specs.declared.parameters.Kernel.{Kernel}
 use Rattle.training_file.specs.declared.parameters.Kernel.the-variants.{Linear, Square, Overlap}
+use Rattle.training_file.specs.declared.item.Item.{Item}
 use Rattle.training_file.specs.Item.{featureMost}
 use Rattle.training_file.specs.Layout.{signedMost}
+use Rattle.reading.specs.Calls.{itemIn}
 use Rattle.dual_problem.specs.Size.{kernelMost}
 use Rattle.dual_problem.specs.Kernel.{FeaturesInRange, kernelValue, largestFeatureSum, largestKernel, linear, overFeatures, raisedFeature, smallerRaised, summand}
 use Rattle.dual_problem.specs.Kernel.Laws.Smaller.{overlap-gram, smaller-comm, smaller-either}
 
 -- ---- Gram forms
-linear-gram : (n d : ℕ) (features : ℕ → List ℤ) → Gram n (λ i j. linear d (features i) (features j))
-linear-gram n d features = record { rank = d; feature = λ p i. getD (features i) p (pos 0); entry = λ i j l m. refl }
+linear-gram : (d : ℕ) (items : List Item) → Gram (length items) (λ i j. linear d (itemIn items i .features) (itemIn items j .features))
+linear-gram d items = record { rank = d; feature = λ p i. getD (itemIn items i .features) p (pos 0); entry = λ i j l m. refl }
 
--- each kernel's values of a family of feature lists are a Gram form, where the features are in their range
-pub kernel-gram : (k : Kernel) (n d : ℕ) (features : ℕ → List ℤ) → FeaturesInRange n features → Gram n (λ i j. kernelValue k d (features i) (features j))
-kernel-gram Linear n d features range = linear-gram n d features
-kernel-gram Square n d features range = gram-* plus-one plus-one
+-- each kernel's values of the items are a Gram form, where the features are in their range
+pub kernel-gram : (k : Kernel) (d : ℕ) (items : List Item) → FeaturesInRange items → Gram (length items) (λ i j. kernelValue k d (itemIn items i .features) (itemIn items j .features))
+kernel-gram Linear d items range = linear-gram d items
+kernel-gram Square d items range = gram-* plus-one plus-one
   where
-    plus-one : Gram n (λ i j. linear d (features i) (features j) +ℤ pos 1)
-    plus-one = gram-+ (linear-gram n d features) (gram-one n)
-kernel-gram Overlap n d features range = overlap-gram n d features range
+    plus-one : Gram (length items) (λ i j. linear d (itemIn items i .features) (itemIn items j .features) +ℤ pos 1)
+    plus-one = gram-+ (linear-gram d items) (gram-one (length items))
+kernel-gram Overlap d items range = overlap-gram d items range
 
 -- ---- the two lists
 -- either may come first

@@ -9,7 +9,6 @@ use mathlib.Core.Path.{_≡_, refl, sym, _∙_, ap}
 use mathlib.Core.List.{List, [], _∷_}
 use Prim.Native.Nat.{ℕ, _*_, _<_}
 use lib.IntN.{ℤ, pos, negℤ, _+ℤ_, _-ℤ_, _*ℤ_}
-use lib.ListN.{length}
 use Rattle.integers.specs.Solver.{con, ⊝_, _⊕_, _⊗_, _⊖_, x₀, x₁, x₂, x₃, x₄, x₅, x₆, solve}
 use Rattle.integers.specs.Sum.{sum}
 use Rattle.integers.specs.Sum.Laws.{sum-cong, sum-cong₂, sum-+ℤ, sum-*ℤ}
@@ -19,7 +18,6 @@ use Rattle.training_file.specs.declared.parameters.Parameters.{Parameters}
 use Rattle.training_file.specs.declared.item.Item.{Item}
 use Rattle.training_file.specs.declared.item.Label.{Label}
 use Rattle.training_file.specs.declared.item.Label.the-variants.{LookedUp, PassedOver}
-use Rattle.reading.specs.Calls.{itemIn}
 use Rattle.dual_problem.specs.Kernel.{FeaturesInRange}
 use Rattle.dual_problem.specs.Kernel.Laws.{kernel-gram}
 use Rattle.dual_problem.specs.Problem.{Problem, problem, sign, y, gradient, doubleSum, objective, finerObjective}
@@ -94,5 +92,5 @@ module _ (P : Problem) where
         ∙ ap (λ z. pos (m * m) *ℤ objective P a +ℤ (quadratic (P .count) (P .kernel) u +ℤ pos 2 *ℤ pos m *ℤ z)) (sym gradient-weighed)
 
 -- the kernel values of any items are a Gram form
-pub problem-gram : (p : Parameters) (items : List Item) → FeaturesInRange (length items) (λ i. itemIn items i .features) → Gram (problem p items .count) (problem p items .kernel)
-problem-gram p items range = kernel-gram (p .kernel) (length items) (p .used) (λ i. itemIn items i .features) range
+pub problem-gram : (p : Parameters) (items : List Item) → FeaturesInRange items → Gram (problem p items .count) (problem p items .kernel)
+problem-gram p items range = kernel-gram (p .kernel) (p .used) items range

@@ -56,7 +56,7 @@ labels-present file p order items e label =
     (k .0, k .1, k .2, ceiling-range p (accepted-ranges file p order items a) (itemIn items (k .0) .label) .0)
 
 -- each item's features are in their range
-pub features-in-range : (file : List ℕ) (p : Parameters) (order : List ℕ) (items : List Item) → reading file ≡ accepted p order items → FeaturesInRange (length items) (λ i. itemIn items i .features)
+pub features-in-range : (file : List ℕ) (p : Parameters) (order : List ℕ) (items : List Item) → reading file ≡ accepted p order items → FeaturesInRange items
 features-in-range file p order items e i l q =
     let a = accepted-is file p order items e in
     item-features-most file p order items a i (omega (arith, items-counted file p order items a)) q
@@ -94,5 +94,5 @@ module _ {file : List ℕ} {p : Parameters} {n : ℕ} (r : Read file p n) where
         few = omega (arith, r .counted);
         counted = r .counted ∙ ap (λ x. length (itemsIn x)) (sym (r .is));
         tabled = λ i l. table-serves file table i (omega (arith, r .counted)) (omega (arith, r .counted));
-        in-range = subst (λ x. FeaturesInRange (length (itemsIn x)) (λ i. itemIn (itemsIn x) i .features)) (sym (r .is)) (features-in-range file p (r .order) (r .items) (r .is));
+        in-range = subst (λ x. FeaturesInRange (itemsIn x)) (sym (r .is)) (features-in-range file p (r .order) (r .items) (r .is));
       }

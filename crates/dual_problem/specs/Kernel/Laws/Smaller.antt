@@ -5,7 +5,7 @@ use mathlib.Core.List.{List}
 use Prim.Native.Nat.{ℕ, suc, _+_, _-_, _*_, _/_, _%_, _≤_, _<_}
 use native.Mathlib.Omega.{arith}
 use lib.IntN.{ℤ, pos, negsuc, natAbs, _+ℤ_, _*ℤ_, +ℤ-idr, *ℤ-comm, *ℤ-zero}
-use lib.ListN.{getD}
+use lib.ListN.{length, getD}
 use lib.Signed.{leZ, _≤ℤ_}
 use Rattle.integers.specs.Linear.{integer, +ℤ-parts, natAbs-parts, one-part}
 use Rattle.integers.specs.Order.{leZ-true, leZ-false, ≤ℤ-leZ, <ℤ-leZ, <ℤ-to-≤ℤ}
@@ -13,7 +13,9 @@ use Rattle.integers.specs.Bounds.{sum-bound}
 use Rattle.integers.specs.Sum.{sum}
 use Rattle.integers.specs.Sum.Laws.{sum-append, sum-cong, sum-flatten, sum-nonneg, sum-ones, sum-zero}
 use Rattle.integers.specs.Gram.{Gram}
+use Rattle.training_file.specs.declared.item.Item.{Item}
 use Rattle.training_file.specs.Item.{featureMost}
+use Rattle.reading.specs.Calls.{itemIn}
 use Rattle.dual_problem.specs.Kernel.{FeaturesInRange, overlap, raisedFeature, raisedMost, smaller, smallerRaised}
 
 -- ---- the smaller of two numbers
@@ -79,8 +81,8 @@ module _ (N : ℕ) where
 
 -- ---- the kernel
 -- entry (p, t) of an item's vector is 1 where its raised feature p reaches t, else 0
-pub overlap-gram : (n d : ℕ) (features : ℕ → List ℤ) → FeaturesInRange n features → Gram n (λ i j. overlap d (features i) (features j))
-overlap-gram n d features range =
+pub overlap-gram : (d : ℕ) (items : List Item) → FeaturesInRange items → Gram (length items) (λ i j. overlap d (itemIn items i .features) (itemIn items j .features))
+overlap-gram d items range =
     record {
       rank = d * raisedMost;
       feature = λ q i. reaches (value i (q / raisedMost)) (threshold (q % raisedMost));
@@ -91,10 +93,10 @@ overlap-gram n d features range =
     }
   where
     value : ℕ → ℕ → ℤ
-    value i p = raisedFeature (getD (features i) p (pos 0))
+    value i p = raisedFeature (getD (itemIn items i .features) p (pos 0))
 
-    within : (i : ℕ) → i < n → (p : ℕ) → UpTo raisedMost (value i p)
-    within i l p = raised-range (getD (features i) p (pos 0)) (range i l p)
+    within : (i : ℕ) → i < length items → (p : ℕ) → UpTo raisedMost (value i p)
+    within i l p = raised-range (getD (itemIn items i .features) p (pos 0)) (range i l p)
 
 -- a value is 0 to 254 for each feature in use
 module _ (d : ℕ) (xs zs : List ℤ) (x-within : (p : ℕ) → natAbs (getD xs p (pos 0)) ≤ featureMost) (z-within : (p : ℕ) → natAbs (getD zs p (pos 0)) ≤ featureMost) where
