@@ -1,6 +1,5 @@
--- Certifying: the thresholds of any feasible multipliers of any file, or a refusal (document 01; demand 3 for multipliers of any
--- source). Laws are in Certify/Laws.antt. Assumes nothing.
-pub mod Laws
+-- Certifying: the thresholds of any feasible multipliers of any file, or a refusal (document 01; demand 3 for multipliers of any source).
+-- Assumes nothing.
 use mathlib.Core.List.{List}
 use Prim.Native.Nat.{ℕ}
 use Rattle.reading.specs.Reading.{Reading, refused, accepted, reading}

@@ -1,3 +1,3 @@
--- Document 01, refusals 6 to 8 and certifying. Laws of X are in X/Laws.antt. Assumes nothing.
+-- Document 01, refusals 6 to 8 and certifying. Assumes nothing.
 pub mod Multipliers
 pub mod Certify

@@ -1,5 +1,4 @@
--- Document 01, refusals 6 to 8: judging multipliers against a problem. Laws are in Multipliers/Laws.antt. Assumes nothing.
-pub mod Laws
+-- Document 01, refusals 6 to 8: judging multipliers against a problem. Assumes nothing.
 use mathlib.Core.Bool.{Bool, false, cond}
 use mathlib.Core.List.{List}
 use Prim.Native.Nat.{ℕ}

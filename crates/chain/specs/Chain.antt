@@ -1,6 +1,5 @@
 -- The chain of a training file: what the walk from its first record comes to. Document 01, "The training file", and document 02, request
--- (k). Laws are in Chain/Laws.antt. Assumes nothing.
-pub mod Laws
+-- (k). Assumes nothing.
 use mathlib.Core.Path.{_≡_, refl}
 use mathlib.Core.Logic.{_⊎_}
 use mathlib.Core.Option.{Option, none, some}

@@ -1,6 +1,5 @@
 -- What the stages of reading answer that walk the chain, each by the definition that it works out, and what a later stage relies on.
--- `countRefusal` takes the refusal out of a count. Laws are in Stages/Laws.antt. Assumes nothing.
-pub mod Laws
+-- `countRefusal` takes the refusal out of a count. Assumes nothing.
 use mathlib.Core.Path.{_≡_}
 use mathlib.Core.Bool.{Bool, cond}
 use mathlib.Core.List.{List, [], _++_, map}

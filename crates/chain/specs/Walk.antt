@@ -1,5 +1,5 @@
 -- The walk along the chain of a training file, to the letter: document 01, "The training file", and document 02, request (k). Records are
--- numbered from 1, m are stored, and `next r` is the next number that record r holds. Laws are in Walk/Laws.antt. Assumes nothing.
+-- numbered from 1, m are stored, and `next r` is the next number that record r holds. Assumes nothing.
 pub mod Laws
 use mathlib.Core.Path.{_≡_}
 use mathlib.Core.Logic.{_≢_}

@@ -1,6 +1,5 @@
--- Classifying a word by a training file and multipliers (document 01, "The step", its last paragraph, and refusals 6 to 9; document 02,
--- (e), for a score of 0). Laws are in Classify/Laws.antt. Assumes nothing.
-pub mod Laws
+-- Classifying a word by a training file and multipliers (document 01, "The step", its last paragraph, and refusals 6 to 9; document 02, (e),
+-- for a score of 0). Assumes nothing.
 use mathlib.Core.Path.{_≡_}
 use mathlib.Core.Bool.{Bool, cond}
 use mathlib.Core.List.{List}

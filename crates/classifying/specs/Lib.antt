@@ -1,2 +1,2 @@
--- Document 01: what classifying answers. Laws of X are in X/Laws.antt. Assumes nothing.
+-- Document 01: what classifying answers. Assumes nothing.
 pub mod Classify

@@ -1,6 +1,4 @@
--- What the code works on: a file that was read, the order table that reading it filled, and multipliers. Laws are in Items/Laws.antt.
--- Assumes nothing.
-pub mod Laws
+-- What the code works on: a file that was read, the order table that reading it filled, and multipliers. Assumes nothing.
 use mathlib.Core.Path.{_≡_}
 use mathlib.Core.List.{List}
 use Prim.Native.Nat.{ℕ, _*_, _≤_, _<_}

@@ -1,6 +1,4 @@
--- Document 01, "Grid definitions", and document 02, request (i): the kernel value K of two items, by their features. Laws are in
--- Kernel/Laws.antt. Assumes nothing.
-pub mod Laws
+-- Document 01, "Grid definitions", and document 02, request (i): the kernel value K of two items, by their features. Assumes nothing.
 use mathlib.Core.Bool.{cond}
 use mathlib.Core.List.{List}
 use Prim.Native.Nat.{ℕ, _+_, _*_, _≤_, _<_}

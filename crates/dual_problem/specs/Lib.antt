@@ -1,5 +1,5 @@
 -- Document 01, "Grid definitions": kernel values and the problem, with demand 3's bound. Read Kernel and Problem; Size and Items are what
--- the code's contracts cite. Laws of X are in X/Laws.antt. Assumes nothing.
+-- the code's contracts cite. Assumes nothing.
 pub mod Kernel
 pub mod Problem
 pub mod Size

@@ -1,7 +1,6 @@
--- Document 01, "Grid definitions", after report CD-99-14, formulas 2, 5 and 8; the whole-number grid and the finer grids are document
--- 01's. Its c is here "the item's own ceiling" (document 02, request (f)). A position of document 01 counts from 1, a place here from 0.
--- Laws are in Problem/Laws.antt. Assumes nothing.
-pub mod Laws
+-- Document 01, "Grid definitions", after report CD-99-14, formulas 2, 5 and 8; the whole-number grid and the finer grids are document 01's.
+-- Its c is here "the item's own ceiling" (document 02, request (f)). A position of document 01 counts from 1, a place here from 0. Assumes
+-- nothing.
 use mathlib.Core.Path.{_≡_}
 use mathlib.Core.Bool.{Bool, true, cond}
 use mathlib.Core.List.{List}

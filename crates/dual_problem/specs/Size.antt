@@ -1,6 +1,5 @@
--- How large the numbers of a problem can be, from the ranges of a file's fields: what the contracts say of each, so that whoever adds
--- them up knows that the sum fits 64 bits. Laws are in Size/Laws.antt. Assumes nothing.
-pub mod Laws
+-- How large the numbers of a problem can be, from the ranges of a file's fields: what the contracts say of each, so that whoever adds them
+-- up knows that the sum fits 64 bits. Assumes nothing.
 use Prim.Native.Nat.{ℕ, _+_, _*_}
 use Rattle.training_file.specs.Layout.{featureCount, signedMost}
 use Rattle.training_file.specs.Parameters.{ceilingMost, gridMost, recordsMost}

@@ -1,6 +1,4 @@
--- The least and the greatest of f i over the places i < n that pass a test, and the lowest place that attains it. Their laws are in
--- Extremum/Laws.antt and Extremum/First.antt. Assumes nothing.
-pub mod Laws
+-- The least and the greatest of f i over the places i < n that pass a test, and the lowest place that attains it. Assumes nothing.
 use mathlib.Core.Bool.{Bool, true, false, cond}
 use mathlib.Core.Option.{Option, none, some}
 use Prim.Native.Nat.{ℕ, zero, suc}

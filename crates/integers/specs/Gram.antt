@@ -1,6 +1,5 @@
--- Gram forms: K i j is the inner product of two vectors of whole numbers, one for place i and one for place j. The quadratic form of
--- such a K is never negative, which is all that the distance bound asks of a kernel. Laws are in Gram/Laws.antt. Assumes nothing.
-pub mod Laws
+-- Gram forms: K i j is the inner product of two vectors of whole numbers, one for place i and one for place j. The quadratic form of such a
+-- K is never negative, which is all that the distance bound asks of a kernel. Assumes nothing.
 use mathlib.Core.Path.{_≡_}
 use Prim.Native.Nat.{ℕ, _<_}
 use lib.IntN.{ℤ, _*ℤ_}

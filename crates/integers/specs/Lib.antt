@@ -1,11 +1,6 @@
--- The integers of lib.IntN with the order of lib.Signed: the laws that the proofs of every crate above cite. Assumes nothing.
-pub mod Test
-pub mod Ring
-pub mod Solver
-pub mod Linear
-pub mod Order
+-- What the definitions of every crate above are made of: sums over places, tests of places, lists written at their first places, the least
+-- and the greatest, Gram forms. The integers are those of lib.IntN, with the order of lib.Signed. Assumes nothing.
 pub mod Sum
-pub mod Bounds
 pub mod Places
 pub mod Written
 pub mod Extremum

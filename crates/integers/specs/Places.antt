@@ -1,5 +1,4 @@
--- A test of the places i < n. Laws are in Places/Laws.antt. Assumes nothing.
-pub mod Laws
+-- A test of the places i < n. Assumes nothing.
 use mathlib.Core.Bool.{Bool, true, _&&_}
 use Prim.Native.Nat.{ℕ, zero, suc}
 

@@ -1,5 +1,4 @@
--- The sum of f i over the places i < n. Its laws are in Sum/Laws.antt and Sum/Places.antt. Assumes nothing.
-pub mod Laws
+-- The sum of f i over the places i < n. Assumes nothing.
 use Prim.Native.Nat.{ℕ, zero, suc}
 use lib.IntN.{ℤ, pos, _+ℤ_}
 

@@ -1,5 +1,4 @@
--- A list with new values at its first places, as a loop that counts up writes them. Laws are in Written/Laws.antt. Assumes nothing.
-pub mod Laws
+-- A list with new values at its first places, as a loop that counts up writes them. Assumes nothing.
 use mathlib.Core.List.{List}
 use Prim.Native.Nat.{ℕ, zero, suc}
 use lib.ListN.{set}

@@ -1,6 +1,5 @@
--- The lines of the listing (document 01, last part of "Settled examples", and document 02, requests (k) and (l)), as lists of bytes: 32 is the
--- space and 10 ends a line. Laws are in Lines/Laws.antt. Assumes nothing.
-pub mod Laws
+-- The lines of the listing (document 01, last part of "Settled examples", and document 02, requests (k) and (l)), as lists of bytes: 32 is
+-- the space and 10 ends a line. Assumes nothing.
 use mathlib.Core.List.{List, [], _∷_, _++_}
 use Prim.Native.Nat.{ℕ, zero, suc}
 use lib.IntN.{ℤ}

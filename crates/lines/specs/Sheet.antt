@@ -1,6 +1,5 @@
 -- The printed sheet by its bytes alone, as it is read and added up by hand. What the line of an item shows stands in three fields, record
--- number, sign and multiplier; the last line adds up the item lines (document 02, request (l)). Laws are in Sheet/Laws.antt. Assumes nothing.
-pub mod Laws
+-- number, sign and multiplier; the last line adds up the item lines (document 02, request (l)). Assumes nothing.
 use mathlib.Core.Path.{_≡_}
 use mathlib.Core.Bool.{cond}
 use mathlib.Core.List.{List, [], _∷_, _++_}

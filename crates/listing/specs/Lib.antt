@@ -1,2 +1,2 @@
--- The program's listing (document 01, last part of "Settled examples") as a list of bytes. Laws are in Listing/Laws.antt. Assumes nothing.
+-- The program's listing (document 01, last part of "Settled examples") as a list of bytes. Assumes nothing.
 pub mod Listing

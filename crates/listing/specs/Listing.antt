@@ -1,8 +1,5 @@
--- The listing that the training program prints (document 01, last part of "Settled examples", and document 02, requests (k) and (l)), as a list
--- of bytes, of the lines that the crate `lines` defines. Laws are in Listing/Laws.antt, and the documents' own example is in
--- Listing/Examples.antt. Assumes nothing.
-pub mod Laws
-pub mod Examples
+-- The listing that the training program prints (document 01, last part of "Settled examples", and document 02, requests (k) and (l)), as a
+-- list of bytes, of the lines that the crate `lines` defines. The documents' own example is in proofs/Examples.antt. Assumes nothing.
 use mathlib.Core.List.{List, [], _++_}
 use Prim.Native.Nat.{ℕ}
 use lib.ListN.{length}

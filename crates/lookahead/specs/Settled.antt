@@ -27,7 +27,7 @@ use Rattle.certifying.specs.declared.certify.Certified.{Certified}
 use Rattle.certifying.specs.declared.certify.Certified.the-variants as certified
 use Rattle.certifying.specs.Certify.{certifying}
 use Rattle.working_pair.specs.Step.{amount, firstCandidate, moves, workingPair}
-use Rattle.working_pair.specs.Step.Laws.WorkingPair.{iLow, iUp}
+use Rattle.working_pair.proofs.Laws.Step.WorkingPair.{iLow, iUp}
 use Rattle.smo.specs.declared.ending.Ending.{Ending}
 use Rattle.smo.specs.declared.ending.Ending.the-variants.{Converged, Stuck, Spent}
 use Rattle.smo.specs.Run.{next, run}

@@ -1,5 +1,4 @@
--- What a call for certifying answers in C, by what the library answers. Laws are in Certifying/Laws.antt. Assumes nothing.
-pub mod Laws
+-- What a call for certifying answers in C, by what the library answers. Assumes nothing.
 use mathlib.Core.List.{List}
 use Prim.Native.Nat.{ℕ, zero, suc}
 use Rattle.training_file.specs.declared.parameters.Parameters.{Parameters}

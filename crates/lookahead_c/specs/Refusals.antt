@@ -1,6 +1,5 @@
--- The refusals with which each call can end, as include/lookahead.h names them. That no call ends with another, nor with the number 0, so that
--- by the number alone a caller in C tells a refusal from an answer, is in Refusals/Laws.antt. Assumes nothing.
-pub mod Laws
+-- The refusals with which each call can end, as include/lookahead.h names them. That no call ends with another, nor with the number 0, so
+-- that by the number alone a caller in C tells a refusal from an answer, is in proofs/Laws/Refusals.antt. Assumes nothing.
 use Rattle.training_file.specs.Refusal.{Within}
 use Rattle.reading.specs.declared.reader.FileAnswer.{FileAnswer}
 use Rattle.reading.specs.declared.reader.FileAnswer.the-variants as read

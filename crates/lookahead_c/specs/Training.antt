@@ -1,5 +1,4 @@
--- What a call for training answers in C, by what the library answers. Laws are in Training/Laws.antt. Assumes nothing.
-pub mod Laws
+-- What a call for training answers in C, by what the library answers. Assumes nothing.
 use mathlib.Core.Path.{_≡_}
 use mathlib.Core.List.{List}
 use Prim.Native.Nat.{ℕ, zero, suc}

@@ -1,5 +1,4 @@
--- What the public calls answer, by the main definition (Reading). Laws are in Calls/Laws.antt. Assumes nothing.
-pub mod Laws
+-- What the public calls answer, by the main definition (Reading). Assumes nothing.
 use mathlib.Core.Path.{_≡_}
 use mathlib.Core.List.{List, []}
 use Prim.Native.Nat.{ℕ, _<_}

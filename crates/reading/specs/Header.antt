@@ -1,5 +1,4 @@
--- The header judged: refusals 1 and 2 of document 01. Laws are in Header/Laws.antt. Assumes nothing.
-pub mod Laws
+-- The header judged: refusals 1 and 2 of document 01. Assumes nothing.
 use mathlib.Core.Bool.{Bool, _&&_, cond}
 use mathlib.Core.List.{List}
 use Prim.Native.Nat.{ℕ, _+_, _*_}

@@ -1,7 +1,5 @@
 -- What a training file says: the main definition of this crate (document 01, "The training file" and refusals 1 to 5; document 02, request
--- (k), and 16). Laws are in Reading/Laws.antt. Assumes nothing.
-pub mod Laws
-pub mod Examples
+-- (k), and 16). Assumes nothing.
 use mathlib.Core.Bool.{Bool, true, false, _&&_}
 use mathlib.Core.List.{List, map}
 use Prim.Native.Nat.{ℕ}

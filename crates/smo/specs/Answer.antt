@@ -1,6 +1,4 @@
--- What the code of the run answers: what is done at the multipliers, and how the run ended. Laws are in Answer/Laws.antt. Assumes
--- nothing.
-pub mod Laws
+-- What the code of the run answers: what is done at the multipliers, and how the run ended. Assumes nothing.
 use mathlib.Core.Bool.{Bool, true, false}
 use mathlib.Core.List.{List}
 use Prim.Native.Nat.{ℕ, _*_}

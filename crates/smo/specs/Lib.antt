@@ -1,3 +1,3 @@
--- Document 01, "The step": the run, and what its endings mean. Laws of X are in X/Laws.antt. Assumes nothing.
+-- Document 01, "The step": the run, and what its endings mean. Assumes nothing.
 pub mod Run
 pub mod Answer

@@ -1,7 +1,6 @@
 -- Document 01, "The step": the run. It is defined once, with a limit on its steps; training is the run from zeros limited by the
 -- budget. Assumes nothing.
 pub mod Meaning
-pub mod Laws
 use mathlib.Core.Bool.{true, false}
 use mathlib.Core.List.{List}
 use mathlib.Core.Option.{none, some}

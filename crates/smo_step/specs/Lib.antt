@@ -1,2 +1,2 @@
--- Document 01, "The step": what a step writes. Laws of X are in X/Laws.antt. Assumes nothing.
+-- Document 01, "The step": what a step writes. Assumes nothing.
 pub mod Update

@@ -1,6 +1,5 @@
--- What a step writes: the two multipliers, and G of each item by what it was before. That this is the move, and G of the moved
--- multipliers, is in Update/Laws.antt. Assumes nothing.
-pub mod Laws
+-- What a step writes: the two multipliers, and G of each item by what it was before. That this is the move, and G of the moved multipliers,
+-- is in proofs/Laws/Update.antt. Assumes nothing.
 use mathlib.Core.List.{List}
 use Prim.Native.Nat.{ℕ, _≤_, _<_}
 use lib.IntN.{ℤ, pos, natAbs, _+ℤ_, _-ℤ_, _*ℤ_}

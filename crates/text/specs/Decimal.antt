@@ -1,5 +1,4 @@
--- Numbers in decimal, without leading zeros, as a list of bytes, and the number that such bytes say. Laws are in Decimal/Laws.antt. Assumes nothing.
-pub mod Laws
+-- Numbers in decimal, without leading zeros, as a list of bytes, and the number that such bytes say. Assumes nothing.
 use mathlib.Core.Bool.{cond}
 use mathlib.Core.List.{List, [], _∷_, _++_}
 use Prim.Native.Nat.{ℕ, zero, suc, _+_, _-_, _*_, _/_, _%_}

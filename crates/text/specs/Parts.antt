@@ -1,6 +1,5 @@
--- A text taken apart at a byte, as somebody who reads it does: at byte 10 into its lines, at the space into the fields of a line. Laws are
--- in Parts/Laws.antt. Assumes nothing.
-pub mod Laws
+-- A text taken apart at a byte, as somebody who reads it does: at byte 10 into its lines, at the space into the fields of a line. Assumes
+-- nothing.
 use mathlib.Core.Bool.{cond}
 use mathlib.Core.List.{List, [], _∷_}
 use Prim.Native.Nat.{ℕ}

@@ -1,5 +1,4 @@
--- What a function that puts text into a lent buffer asks and does. Laws are in Put/Laws.antt. Assumes nothing.
-pub mod Laws
+-- What a function that puts text into a lent buffer asks and does. Assumes nothing.
 use mathlib.Core.Path.{_≡_}
 use mathlib.Core.List.{List}
 use Prim.Native.Nat.{ℕ, _+_, _≤_}

@@ -1,5 +1,4 @@
--- The places that attain the thresholds, as the code finds them in one pass. Laws are in Extremes/Laws.antt. Assumes nothing.
-pub mod Laws
+-- The places that attain the thresholds, as the code finds them in one pass. Assumes nothing.
 use mathlib.Core.Bool.{Bool, true, false, cond}
 use mathlib.Core.List.{List}
 use mathlib.Core.Option.{Option, none, some}

@@ -1,6 +1,5 @@
--- The totals of the item lines (document 02, request (l)), over the numbers that the lines show: "the count of multipliers above 0, the
--- sum over label +1 and the sum over label −1. These are the sums of the printed lines". Laws are in Totals/Laws.antt. Assumes nothing.
-pub mod Laws
+-- The totals of the item lines (document 02, request (l)), over the numbers that the lines show: "the count of multipliers above 0, the sum
+-- over label +1 and the sum over label −1. These are the sums of the printed lines". Assumes nothing.
 use mathlib.Core.Bool.{cond}
 use Prim.Native.Nat.{ℕ, zero, suc, _+_}
 use lib.Dec.{ltb}

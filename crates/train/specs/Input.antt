@@ -1,5 +1,4 @@
--- Bytes that were read into a buffer. Laws are in Input/Laws.antt. Assumes nothing.
-pub mod Laws
+-- Bytes that were read into a buffer. Assumes nothing.
 use mathlib.Core.List.{List}
 use Prim.Native.Nat.{ℕ, min, _+_, _≤_}
 use lib.IntN.{ℤ, pos, negsuc}

@@ -1,3 +1,3 @@
--- What the program's own functions promise, and why it need not read a long file to its end. Assumes nothing.
+-- What the program's own functions ask and promise. Assumes nothing.
 pub mod Cut
 pub mod Input

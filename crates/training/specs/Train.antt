@@ -1,6 +1,5 @@
--- Training (document 01, "The step" and refusal 6; demands 2 and 3): what the call answers, what it leaves in the lent lists, and what
--- may be relied on. Laws are in Train/Laws.antt. Assumes nothing.
-pub mod Laws
+-- Training (document 01, "The step" and refusal 6; demands 2 and 3): what the call answers, what it leaves in the lent lists, and what may
+-- be relied on. Assumes nothing.
 use mathlib.Core.Path.{_≡_}
 use mathlib.Core.Logic.{_↔_}
 use mathlib.Core.Bool.{cond, _&&_}

@@ -1,6 +1,4 @@
--- An item and its ranges (document 01, "The training file": "An item is its label with sixteen signed features"). Laws are in
--- Item/Laws.antt. Assumes nothing.
-pub mod Laws
+-- An item and its ranges (document 01, "The training file": "An item is its label with sixteen signed features"). Assumes nothing.
 use mathlib.Core.Bool.{Bool, _&&_, cond}
 use mathlib.Core.List.{List, map}
 use Prim.Native.Nat.{ℕ}

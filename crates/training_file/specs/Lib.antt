@@ -1,5 +1,5 @@
--- What a training file consists of, to be read in this order: Refusal, Layout, Parameters, Item, Record, Answers (what the code answers,
--- by these). Laws of X are in X/Laws.antt.
+-- What a training file consists of, to be read in this order: Refusal, Layout, Parameters, Item, Record, Answers (what the code answers, by
+-- these).
 pub mod Refusal
 pub mod Layout
 pub mod Parameters

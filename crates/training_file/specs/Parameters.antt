@@ -1,6 +1,4 @@
--- The parameters of training and their ranges (document 01, "The training file": the header's table, column "Allowed"). Laws are in
--- Parameters/Laws.antt. Assumes nothing.
-pub mod Laws
+-- The parameters of training and their ranges (document 01, "The training file": the header's table, column "Allowed"). Assumes nothing.
 use mathlib.Core.Bool.{Bool, _&&_, cond}
 use Prim.Native.Nat.{ℕ, _≤_}
 use lib.Dec.{leb, eqb}

@@ -1,5 +1,4 @@
--- A record judged and read: refusal 4 of document 01, and the item that the record holds. Laws are in Record/Laws.antt. Assumes nothing.
-pub mod Laws
+-- A record judged and read: refusal 4 of document 01, and the item that the record holds. Assumes nothing.
 use mathlib.Core.Bool.{Bool, _&&_}
 use mathlib.Core.List.{List}
 use Prim.Native.Nat.{ℕ, _+_, _*_, _≤_}

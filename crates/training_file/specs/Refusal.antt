@@ -1,7 +1,5 @@
--- A refusal: document 01, "Refusals by the party who can cause them", and document 02, request (k): numbers 3 and 16 "carry the number of the
--- record whose next field is at fault"; "other refusals carry none". The numbers' names are in src/refusal.rt. Laws are in
--- Refusal/Laws.antt. Assumes nothing.
-pub mod Laws
+-- A refusal: document 01, "Refusals by the party who can cause them", and document 02, request (k): numbers 3 and 16 "carry the number of
+-- the record whose next field is at fault"; "other refusals carry none". The numbers' names are in src/refusal.rt. Assumes nothing.
 use mathlib.Core.Path.{_≡_}
 use mathlib.Core.Logic.{_≢_, _⊎_}
 use Prim.Native.Nat.{ℕ, _≤_}

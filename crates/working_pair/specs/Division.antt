@@ -1,6 +1,5 @@
--- How the code finds the amount of a move: by one division, from numbers that it has of the pair. That this is the amount of document 01
--- is in Division/Laws.antt. Assumes nothing.
-pub mod Laws
+-- How the code finds the amount of a move: by one division, from numbers that it has of the pair. That this is the amount of document 01 is
+-- in proofs/Laws/Division.antt. Assumes nothing.
 use mathlib.Core.Bool.{cond}
 use Prim.Native.Nat.{ℕ, _+_, _-_, _*_, _/_, _≤_, min}
 use lib.Dec.{eqb}

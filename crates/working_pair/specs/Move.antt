@@ -1,6 +1,4 @@
--- Document 01: what a move of two multipliers is, for multipliers given as a function of the place. Laws are in Move/Laws.antt.
--- Assumes nothing.
-pub mod Laws
+-- Document 01: what a move of two multipliers is, for multipliers given as a function of the place. Assumes nothing.
 use mathlib.Core.Path.{_≡_}
 use Prim.Native.Nat.{ℕ, _<_}
 use lib.IntN.{pos, _+ℤ_, _-ℤ_, _*ℤ_}

@@ -1,6 +1,5 @@
--- What the contracts on choosing the working pair cite: what testing a pair is about, the partner of a place, and the
--- answers as the code's enums. Laws are in Pair/Laws.antt. Assumes nothing.
-pub mod Laws
+-- What the contracts on choosing the working pair cite: what testing a pair is about, the partner of a place, and the answers as the code's
+-- enums. Assumes nothing.
 use mathlib.Core.Path.{_≡_}
 use mathlib.Core.Bool.{Bool, _&&_}
 use mathlib.Core.List.{List}

@@ -1,7 +1,6 @@
--- Document 01, "The step": which pair moves, by how much, and which pair is taken. The two thresholds are report CD-99-14's, the pair
--- step is source document 003's; the grid, the rounding and the fallback pair are document 01's. Multipliers are the list a, of which
--- `at a` is the function of the place. Laws are in Step/Laws.antt. Assumes nothing.
-pub mod Laws
+-- Document 01, "The step": which pair moves, by how much, and which pair is taken. The two thresholds are report CD-99-14's, the pair step
+-- is source document 003's; the grid, the rounding and the fallback pair are document 01's. Multipliers are the list a, of which `at a` is
+-- the function of the place. Assumes nothing.
 use mathlib.Core.Path.{_≡_}
 use mathlib.Core.Bool.{Bool, true, false, _&&_}
 use mathlib.Core.List.{List}

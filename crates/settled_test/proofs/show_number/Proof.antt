@@ -8,9 +8,9 @@ use lib.IntN.{ℤ}
 use lib.ListN.{length}
 use lib.Seq.{length-take-le}
 use Rattle.text.specs.Put.{Put, Room}
-use Rattle.text.specs.Put.Laws.{put-length}
+use Rattle.text.proofs.Laws.Put.{put-length}
 use Rattle.text.specs.Decimal.{signedDecimal}
-use Rattle.text.specs.Decimal.Laws.{signed-length}
+use Rattle.text.proofs.Laws.Decimal.{signed-length}
 use Rattle.settled_test.proofs.show_number.Statement.{statement}
 use Rattle.settled_test.proofs.show_number.Tie as tie
 

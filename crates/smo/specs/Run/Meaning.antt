@@ -1,5 +1,5 @@
--- What a run's outcome says: what each ending means, that the steps counted are the moves made, and an outcome after k steps more.
--- That it holds of every run is in Run/Laws.antt. Assumes nothing.
+-- What a run's outcome says: what each ending means, that the steps counted are the moves made, and an outcome after k steps more. That it
+-- holds of every run is in proofs/Laws/Run.antt. Assumes nothing.
 use mathlib.Core.Path.{_≡_}
 use mathlib.Core.Logic.{_↔_}
 use mathlib.Core.List.{List}

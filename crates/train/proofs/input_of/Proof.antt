@@ -8,7 +8,7 @@ use mir.Facts.{toZ-ofZ}
 use mir.Syntax.{w64}
 use mir.Val.{SFits, toZ, ofZ}
 use Rattle.io.specs.Counts.{clamped}
-use Rattle.train.specs.Input.Laws.{bytes-are, failed-is}
+use Rattle.train.proofs.Laws.Input.{bytes-are, failed-is}
 use Rattle.train.proofs.input_of.Statement.{statement}
 use Rattle.train.proofs.input_of.Tie as tie
 

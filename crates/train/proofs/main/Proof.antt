@@ -5,8 +5,8 @@ use native.Mathlib.Omega.{arith}
 use lib.ListN.{length}
 use lib.Seq.{length-take-le}
 use borrow.Author.Needs.{needs}
-use Rattle.listing.specs.Listing.Laws.{listing-within}
-use Rattle.train.specs.Cut.{cut-same}
+use Rattle.listing.proofs.Laws.Listing.{listing-within}
+use Rattle.train.proofs.Laws.Cut.{cut-same}
 use Rattle.train.specs.Input.{FitsBuffer}
 use Rattle.train.proofs.main.Statement.{statement}
 use Rattle.train.proofs.main.Tie as tie

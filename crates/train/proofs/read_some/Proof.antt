@@ -7,7 +7,7 @@ use lib.ListN.{length, length-drop}
 use mir.Syntax.{w64}
 use mir.Val.{toZ, ofZ}
 use Rattle.train.specs.Input.{FitsBuffer}
-use Rattle.train.specs.Input.Laws.{came-fits}
+use Rattle.train.proofs.Laws.Input.{came-fits}
 use Rattle.train.proofs.read_some.Statement.{statement}
 use Rattle.train.proofs.read_some.Tie as tie
 

@@ -2,7 +2,7 @@
 use mathlib.Core.Path.{sym}
 use lib.Seq.{length-take-le}
 use borrow.Author.Needs.{needs}
-use Rattle.listing.specs.Listing.Laws.{listing-within}
+use Rattle.listing.proofs.Laws.Listing.{listing-within}
 use Rattle.vectors_test.proofs.show.Statement.{statement}
 use Rattle.vectors_test.proofs.show.Tie as tie
 

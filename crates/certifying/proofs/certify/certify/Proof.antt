@@ -4,10 +4,10 @@ use borrow.Author.Needs.{needs}
 use Rattle.reading.specs.Reading.{reading}
 use Rattle.reading.specs.Calls.{fileRefusal}
 use Rattle.dual_problem.specs.Items.{Listed}
-use Rattle.dual_problem.specs.Items.Laws.Read.{answer-read, read-listed, read-ranges}
+use Rattle.dual_problem.proofs.Laws.Items.Read.{answer-read, read-listed, read-ranges}
 use Rattle.certifying.specs.declared.certify.Certified.the-variants.{Refused}
 use Rattle.certifying.specs.Certify.{CertifiedDistance}
-use Rattle.certifying.specs.Certify.Laws.{certified-distance, certify-refused, certify-read}
+use Rattle.certifying.proofs.Laws.Certify.{certified-distance, certify-refused, certify-read}
 use Rattle.certifying.proofs.certify.certify.Statement.{statement}
 use Rattle.certifying.proofs.certify.certify.Tie as tie
 

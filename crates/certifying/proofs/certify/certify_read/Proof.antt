@@ -5,11 +5,11 @@ use borrow.Author.Needs.{needs}
 use Rattle.reading.specs.Reading.{reading}
 use Rattle.reading.specs.Calls.{itemsIn}
 use Rattle.dual_problem.specs.Problem.{Problem}
-use Rattle.dual_problem.specs.Problem.Laws.Ceilings.{feasible-most}
+use Rattle.dual_problem.proofs.Laws.Problem.Ceilings.{feasible-most}
 use Rattle.dual_problem.specs.Items.{at, problemOf}
 use Rattle.certifying.specs.declared.certify.Certified.the-variants.{Refused, Found}
 use Rattle.certifying.specs.Multipliers.{judgementRefusal}
-use Rattle.certifying.specs.Multipliers.Laws.{judgement-feasible}
+use Rattle.certifying.proofs.Laws.Multipliers.{judgement-feasible}
 use Rattle.certifying.specs.Certify.{certifyJudged}
 use Rattle.certifying.proofs.certify.certify_read.Statement.{statement}
 use Rattle.certifying.proofs.certify.certify_read.Tie as tie

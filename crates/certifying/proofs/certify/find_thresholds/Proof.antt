@@ -6,12 +6,12 @@ use lib.IntN.{ℤ, pos}
 use lib.ListN.{getD}
 use mir.Syntax.{w64}
 use borrow.Author.Needs.{needs}
-use Rattle.integers.specs.Bounds.{reads-element}
-use Rattle.integers.specs.Written.Laws.{written-at}
+use Rattle.integers.proofs.Laws.Bounds.{reads-element}
+use Rattle.integers.proofs.Laws.Written.{written-at}
 use Rattle.dual_problem.specs.Problem.{Problem, gradient}
 use Rattle.dual_problem.specs.Items.{at, problemOf}
 use Rattle.thresholds.specs.Extremes.{bestValue}
-use Rattle.thresholds.specs.Extremes.Laws.{low-value, up-value}
+use Rattle.thresholds.proofs.Laws.Extremes.{low-value, up-value}
 use Rattle.certifying.proofs.certify.find_thresholds.Statement.{statement}
 use Rattle.certifying.proofs.certify.find_thresholds.Tie as tie
 

@@ -13,7 +13,7 @@ use Rattle.integers.specs.Places.{all}
 use Rattle.dual_problem.specs.Problem.{Problem}
 use Rattle.dual_problem.specs.Items.{at, problemOf}
 use Rattle.certifying.specs.Multipliers.{balance}
-use Rattle.certifying.specs.Multipliers.Laws.{judgement-is, zero-is-zero, nonzero-is-zero}
+use Rattle.certifying.proofs.Laws.Multipliers.{judgement-is, zero-is-zero, nonzero-is-zero}
 use Rattle.certifying.proofs.multipliers.judge.Statement.{statement}
 use Rattle.certifying.proofs.multipliers.judge.Tie as tie
 

@@ -9,7 +9,7 @@ use borrow.Author.Needs.{needs}
 use lib.IntN.{ℤ, pos, natAbs, _+ℤ_, _*ℤ_}
 use mir.Syntax.{w64}
 use mir.Val.{toZ, ofZ}
-use Rattle.integers.specs.Bounds.{+ℤ-bound, fits-width, reads-back, reads-as}
+use Rattle.integers.proofs.Laws.Bounds.{+ℤ-bound, fits-width, reads-back, reads-as}
 use Rattle.integers.specs.Sum.{sum}
 use Rattle.reading.specs.Reading.{reading}
 use Rattle.reading.specs.Calls.{itemIn, itemsIn}

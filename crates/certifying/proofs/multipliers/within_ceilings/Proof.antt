@@ -10,7 +10,7 @@ use borrow.Author.Needs.{needs}
 use borrow.Author.Tests.{le-leb, lt-leb}
 use lib.Dec.{leb}
 use Rattle.integers.specs.Places.{all}
-use Rattle.integers.specs.Places.Laws.{all-suc, all-fails}
+use Rattle.integers.proofs.Laws.Places.{all-suc, all-fails}
 use Rattle.training_file.specs.declared.parameters.Parameters.{Parameters}
 use Rattle.dual_problem.specs.Problem.{ceilingOf}
 use Rattle.dual_problem.specs.Items.{at, problemOf}

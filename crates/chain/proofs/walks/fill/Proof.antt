@@ -7,7 +7,7 @@ use native.Mathlib.Omega.{arith}
 use lib.ListN.{length, getD, take, drop, length-set}
 use borrow.Author.Needs.{needs, scaled-fits}
 use Rattle.chain.specs.Stages.{orderOf}
-use Rattle.chain.specs.Stages.Laws.{fill-done, fill-more, order-first, order-next, order-within}
+use Rattle.chain.proofs.Laws.Stages.{fill-done, fill-more, order-first, order-next, order-within}
 use Rattle.chain.proofs.walks.fill.Statement.{statement}
 use Rattle.chain.proofs.walks.fill.Tie as tie
 

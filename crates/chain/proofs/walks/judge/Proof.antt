@@ -9,11 +9,11 @@ use Rattle.training_file.specs.declared.item.Label.the-variants.{LookedUp}
 use Rattle.training_file.specs.Item.{same}
 use Rattle.training_file.specs.Record.{Stored}
 use Rattle.training_file.specs.Answers.{labelRefusal, recordAnswer}
-use Rattle.training_file.specs.Item.Laws.{same-most}
-use Rattle.training_file.specs.Record.Laws.{answer-known, answer-refused}
+use Rattle.training_file.proofs.Laws.Item.{same-most}
+use Rattle.training_file.proofs.Laws.Record.{answer-known, answer-refused}
 use Rattle.chain.specs.declared.count.Count.the-variants.{Refused}
 use Rattle.chain.specs.Stages.{judgeAnswer, orderOf}
-use Rattle.chain.specs.Stages.Laws.{judge-allowed, judge-none, judge-refused, order-first, order-next, order-stored}
+use Rattle.chain.proofs.Laws.Stages.{judge-allowed, judge-none, judge-refused, order-first, order-next, order-stored}
 use Rattle.chain.proofs.walks.judge.Statement.{statement}
 use Rattle.chain.proofs.walks.judge.Tie as tie
 

@@ -4,9 +4,9 @@ use borrow.Author.Needs.{needs}
 use Rattle.reading.specs.Reading.{reading}
 use Rattle.reading.specs.Calls.{fileRefusal}
 use Rattle.dual_problem.specs.Items.{Listed}
-use Rattle.dual_problem.specs.Items.Laws.Read.{answer-read, read-listed, read-ranges}
+use Rattle.dual_problem.proofs.Laws.Items.Read.{answer-read, read-listed, read-ranges}
 use Rattle.classifying.specs.declared.classify.Classified.the-variants.{Refused}
-use Rattle.classifying.specs.Classify.Laws.{classify-refused, classify-read}
+use Rattle.classifying.proofs.Laws.Classify.{classify-refused, classify-read}
 use Rattle.classifying.proofs.classify.classify.Statement.{statement}
 use Rattle.classifying.proofs.classify.classify.Tie as tie
 

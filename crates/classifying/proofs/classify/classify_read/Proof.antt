@@ -8,21 +8,21 @@ use native.Mathlib.Omega.{arith}
 use borrow.Author.Tests.{eq-eqb, ne-eqb, not-true, not-false}
 use mir.Syntax.{w64}
 use borrow.Author.Needs.{needs}
-use Rattle.integers.specs.Bounds.{reads-element}
+use Rattle.integers.proofs.Laws.Bounds.{reads-element}
 use Rattle.training_file.specs.declared.item.Item.{Item}
 use Rattle.training_file.specs.Refusal.{refusal}
 use Rattle.reading.specs.Reading.{reading}
 use Rattle.reading.specs.Calls.{itemsIn}
-use Rattle.dual_problem.specs.Problem.Laws.Ceilings.{feasible-most}
+use Rattle.dual_problem.proofs.Laws.Problem.Ceilings.{feasible-most}
 use Rattle.dual_problem.specs.Items.{MultipliersListed, at, problemOf}
-use Rattle.dual_problem.specs.Items.Laws.{b-low-size, b-up-size}
+use Rattle.dual_problem.proofs.Laws.Items.{b-low-size, b-up-size}
 use Rattle.dual_problem.specs.Size.{gradientMost}
 use Rattle.certifying.specs.declared.multipliers.Judgement.the-variants.{Feasible}
 use Rattle.certifying.specs.Multipliers.{judgement, judgementRefusal}
-use Rattle.certifying.specs.Multipliers.Laws.{judgement-feasible}
+use Rattle.certifying.proofs.Laws.Multipliers.{judgement-feasible}
 use Rattle.classifying.specs.declared.classify.Classified.the-variants.{Refused, Is}
 use Rattle.classifying.specs.Classify.{classOf, classifyItems, scoreWith}
-use Rattle.classifying.specs.Classify.Laws.{class, feasible-are, items-are}
+use Rattle.classifying.proofs.Laws.Classify.{class, feasible-are, items-are}
 use Rattle.classifying.proofs.classify.classify_read.Statement.{statement}
 use Rattle.classifying.proofs.classify.classify_read.Tie as tie
 

@@ -6,14 +6,14 @@ use lib.IntN.{ℤ, pos, natAbs, _+ℤ_, _-ℤ_, _*ℤ_}
 use mir.Syntax.{w64}
 use mir.Val.{toZ, ofZ}
 use borrow.Author.Needs.{needs}
-use Rattle.integers.specs.Bounds.{fits-width, reads-back}
+use Rattle.integers.proofs.Laws.Bounds.{fits-width, reads-back}
 use Rattle.reading.specs.Reading.{reading}
 use Rattle.reading.specs.Calls.{itemsIn}
 use Rattle.dual_problem.specs.Problem.{Problem}
 use Rattle.dual_problem.specs.Items.{at, problemOf, weighedSum}
 use Rattle.dual_problem.specs.Size.{gradientMost, scoreMost, weighedMost}
 use Rattle.classifying.specs.Classify.{scoreWith, wordKernel}
-use Rattle.classifying.specs.Classify.Laws.{score-size, wordKernel-is}
+use Rattle.classifying.proofs.Laws.Classify.{score-size, wordKernel-is}
 use Rattle.classifying.proofs.classify.find_score.Statement.{statement}
 use Rattle.classifying.proofs.classify.find_score.Tie as tie
 

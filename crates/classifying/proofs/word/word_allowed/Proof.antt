@@ -10,9 +10,9 @@ use borrow.Author.Tests.{not-true, not-false}
 use lib.IntN.{ℤ, pos}
 use lib.ListN.{length, getD}
 use mir.Syntax.{w8}
-use Rattle.integers.specs.Bounds.{reads-element}
+use Rattle.integers.proofs.Laws.Bounds.{reads-element}
 use Rattle.integers.specs.Places.{all}
-use Rattle.integers.specs.Places.Laws.{all-suc, all-fails}
+use Rattle.integers.proofs.Laws.Places.{all-suc, all-fails}
 use Rattle.training_file.specs.Item.{featureAllowed}
 use Rattle.classifying.proofs.word.word_allowed.Statement.{statement}
 use Rattle.classifying.proofs.word.word_allowed.Tie as tie

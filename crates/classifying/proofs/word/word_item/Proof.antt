@@ -9,9 +9,9 @@ use native.Mathlib.Omega.{arith}
 use lib.IntN.{ℤ, pos}
 use lib.ListN.{length, getD, set, replicate, getD-replicate, List·getD-eq-default}
 use mir.Syntax.{w8}
-use Rattle.integers.specs.Bounds.{reads-element}
+use Rattle.integers.proofs.Laws.Bounds.{reads-element}
 use Rattle.integers.specs.Written.{written}
-use Rattle.integers.specs.Written.Laws.{written-at, written-past}
+use Rattle.integers.proofs.Laws.Written.{written-at, written-past}
 use Rattle.classifying.proofs.word.word_item.Statement.{statement}
 use Rattle.classifying.proofs.word.word_item.Tie as tie
 

@@ -4,10 +4,10 @@ use Prim.Native.Nat.{_*_, _≤_}
 use native.Mathlib.Omega.{arith}
 use lib.IntN.{ℤ, pos, natAbs, _*ℤ_, zero-*ℤ}
 use mir.Syntax.{w64}
-use Rattle.integers.specs.Bounds.{reads-back}
+use Rattle.integers.proofs.Laws.Bounds.{reads-back}
 use Rattle.dual_problem.specs.Size.{termMost}
 use Rattle.dual_problem.specs.Kernel.{kernelBetween}
-use Rattle.dual_problem.specs.Kernel.Laws.{kernel-reads, kernel-sized}
+use Rattle.dual_problem.proofs.Laws.Kernel.{kernel-reads, kernel-sized}
 use Rattle.dual_problem.specs.Problem.{sign, y}
 use Rattle.dual_problem.specs.Items.{kernelWith, problemOf}
 use Rattle.dual_problem.proofs.gradient.addend.Statement.{statement}

@@ -6,9 +6,9 @@ use native.Mathlib.Omega.{arith}
 use lib.IntN.{natAbs}
 use lib.ListN.{length, set}
 use mir.Syntax.{w64}
-use Rattle.integers.specs.Bounds.{reads-back}
+use Rattle.integers.proofs.Laws.Bounds.{reads-back}
 use Rattle.integers.specs.Written.{written}
-use Rattle.integers.specs.Written.Laws.{length-written}
+use Rattle.integers.proofs.Laws.Written.{length-written}
 use Rattle.dual_problem.specs.Size.{gradientMost}
 use Rattle.dual_problem.specs.Problem.{gradient as gradientOf}
 use Rattle.dual_problem.specs.Items.{at, problemOf}

@@ -7,7 +7,7 @@ use borrow.Author.Needs.{needs}
 use lib.IntN.{ℤ, pos, natAbs, _-ℤ_, _*ℤ_}
 use mir.Syntax.{w64}
 use mir.Val.{toZ, ofZ}
-use Rattle.integers.specs.Bounds.{fits-width, reads-back, -ℤ-bound}
+use Rattle.integers.proofs.Laws.Bounds.{fits-width, reads-back, -ℤ-bound}
 use Rattle.training_file.specs.Parameters.{gridMost}
 use Rattle.dual_problem.specs.Size.{gradientMost, weighedMost}
 use Rattle.dual_problem.specs.Problem.{Problem, gradient, sign, y}

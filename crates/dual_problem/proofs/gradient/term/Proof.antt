@@ -8,7 +8,7 @@ use lib.IntN.{ℤ, pos, natAbs, _*ℤ_}
 use mir.Facts.{toZ-ofZ}
 use mir.Syntax.{w64}
 use mir.Val.{toZ, ofZ}
-use Rattle.integers.specs.Bounds.{*ℤ-bound, fits-width, reads-back}
+use Rattle.integers.proofs.Laws.Bounds.{*ℤ-bound, fits-width, reads-back}
 use Rattle.training_file.specs.Parameters.{ceilingMost}
 use Rattle.dual_problem.specs.Size.{termMost}
 use Rattle.dual_problem.specs.Problem.{sign}

@@ -6,7 +6,7 @@ use native.Mathlib.Omega.{arith}
 use lib.IntN.{ℤ, pos, natAbs, _+ℤ_, _*ℤ_}
 use mir.Syntax.{w64}
 use mir.Val.{toZ, ofZ}
-use Rattle.integers.specs.Bounds.{+ℤ-bound, fits-width, reads-back, reads-as}
+use Rattle.integers.proofs.Laws.Bounds.{+ℤ-bound, fits-width, reads-back, reads-as}
 use Rattle.integers.specs.Sum.{sum}
 use Rattle.dual_problem.specs.Size.{termMost, weighedMost}
 use Rattle.dual_problem.specs.Problem.{Problem, y}

@@ -10,7 +10,7 @@ use lib.IntN.{ℤ, pos, natAbs, _+ℤ_}
 use lib.ListN.{getD}
 use mir.Syntax.{w8, w32, w64}
 use mir.Val.{toZ, ofZ}
-use Rattle.integers.specs.Bounds.{+ℤ-bound, fits-width, reads-back, reads-as, reads-element}
+use Rattle.integers.proofs.Laws.Bounds.{+ℤ-bound, fits-width, reads-back, reads-as, reads-element}
 use Rattle.integers.specs.Sum.{sum}
 use Rattle.training_file.specs.Layout.{signedMost}
 use Rattle.dual_problem.specs.Size.{featureSumMost}

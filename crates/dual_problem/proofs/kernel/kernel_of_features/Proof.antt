@@ -10,7 +10,7 @@ use denote.Enum.Declared.{tagOf}
 use lib.IntN.{ℤ, pos, natAbs, _+ℤ_, _*ℤ_}
 use mir.Syntax.{w64}
 use mir.Val.{toZ, ofZ}
-use Rattle.integers.specs.Bounds.{+ℤ-bound, *ℤ-bound, fits-width, reads-back}
+use Rattle.integers.proofs.Laws.Bounds.{+ℤ-bound, *ℤ-bound, fits-width, reads-back}
 use Rattle.training_file.proofs.parameters.Kernel.{the-type}
 use Rattle.training_file.specs.declared.parameters.Kernel.{Kernel}
 use Rattle.training_file.specs.declared.parameters.Kernel.the-variants.{Linear, Square, Overlap}

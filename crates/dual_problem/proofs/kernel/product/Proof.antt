@@ -5,8 +5,8 @@ use native.Mathlib.Omega.{arith}
 use lib.IntN.{natAbs, _*ℤ_}
 use mir.Syntax.{w8, w32}
 use mir.Val.{toZ, ofZ, hbits}
-use Rattle.integers.specs.Bounds.{*ℤ-bound, fits-width, reads-back}
-use Rattle.dual_problem.specs.Kernel.Laws.{feature-fits, feature-reads, feature-size}
+use Rattle.integers.proofs.Laws.Bounds.{*ℤ-bound, fits-width, reads-back}
+use Rattle.dual_problem.proofs.Laws.Kernel.{feature-fits, feature-reads, feature-size}
 use Rattle.dual_problem.proofs.kernel.product.Statement.{statement}
 use Rattle.dual_problem.proofs.kernel.product.Tie as tie
 

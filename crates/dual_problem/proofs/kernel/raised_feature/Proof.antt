@@ -7,10 +7,10 @@ use borrow.Author.Needs.{needs}
 use lib.IntN.{pos, natAbs, _+ℤ_}
 use mir.Syntax.{w8, w32}
 use mir.Val.{toZ, ofZ, hbits}
-use Rattle.integers.specs.Bounds.{+ℤ-bound, fits-width, reads-back}
+use Rattle.integers.proofs.Laws.Bounds.{+ℤ-bound, fits-width, reads-back}
 use Rattle.training_file.specs.Item.{featureMost}
 use Rattle.dual_problem.specs.Kernel.{raisedFeature}
-use Rattle.dual_problem.specs.Kernel.Laws.{feature-fits, feature-reads, feature-size}
+use Rattle.dual_problem.proofs.Laws.Kernel.{feature-fits, feature-reads, feature-size}
 use Rattle.dual_problem.proofs.kernel.raised_feature.Statement.{statement}
 use Rattle.dual_problem.proofs.kernel.raised_feature.Tie as tie
 

@@ -9,10 +9,10 @@ use lib.Signed.{leZ}
 use mir.Facts.{toZ-ofZ}
 use mir.Syntax.{w8, w32}
 use mir.Val.{SFits, toZ, ofZ}
-use Rattle.integers.specs.Bounds.{+ℤ-bound, reads-back}
+use Rattle.integers.proofs.Laws.Bounds.{+ℤ-bound, reads-back}
 use Rattle.training_file.specs.Item.{featureMost}
 use Rattle.dual_problem.specs.Kernel.{raisedFeature, smallerRaised}
-use Rattle.dual_problem.specs.Kernel.Laws.{feature-size}
+use Rattle.dual_problem.proofs.Laws.Kernel.{feature-size}
 use Rattle.dual_problem.proofs.kernel.smaller_raised.Statement.{statement}
 use Rattle.dual_problem.proofs.kernel.smaller_raised.Tie as tie
 

@@ -10,13 +10,13 @@ use lib.IntN.{ℤ, natAbs, _*ℤ_}
 use mir.Facts.{toZ-ofZ}
 use mir.Syntax.{w8, w32}
 use mir.Val.{toZ, ofZ}
-use Rattle.integers.specs.Bounds.{reads-back}
+use Rattle.integers.proofs.Laws.Bounds.{reads-back}
 use Rattle.training_file.proofs.parameters.Kernel.{the-type}
 use Rattle.training_file.specs.declared.parameters.Kernel.{Kernel}
 use Rattle.training_file.specs.declared.parameters.Kernel.the-variants.{Linear, Square, Overlap}
 use Rattle.training_file.specs.Layout.{signedMost}
 use Rattle.dual_problem.specs.Kernel.{summand}
-use Rattle.dual_problem.specs.Kernel.Laws.{feature-size, summand-bound}
+use Rattle.dual_problem.proofs.Laws.Kernel.{feature-size, summand-bound}
 use Rattle.dual_problem.proofs.kernel.summand.Statement.{statement}
 use Rattle.dual_problem.proofs.kernel.summand.Tie as tie
 

@@ -3,7 +3,7 @@
 use mathlib.Core.Path.{sym, ap, _∙_}
 use borrow.Author.Needs.{needs}
 use Rattle.dual_problem.specs.Problem.{ceilingOf}
-use Rattle.dual_problem.specs.Problem.Laws.Ceilings.{ceiling-given, ceiling-same}
+use Rattle.dual_problem.proofs.Laws.Problem.Ceilings.{ceiling-given, ceiling-same}
 use Rattle.dual_problem.proofs.label.ceiling.Statement.{statement}
 use Rattle.dual_problem.proofs.label.ceiling.Tie as tie
 

@@ -9,8 +9,8 @@ use lib.IntN.{ℤ, pos, negsuc, natAbs, _-ℤ_, _*ℤ_}
 use mir.Facts.{toZ-pos}
 use mir.Syntax.{w64}
 use mir.Val.{toZ}
-use Rattle.integers.specs.Solver.{con, _⊗_, _⊖_, x₀, solve}
-use Rattle.integers.specs.Bounds.{*ℤ-bound, fits-width, reads-back}
+use Rattle.integers.proofs.Laws.Solver.{con, _⊗_, _⊖_, x₀, solve}
+use Rattle.integers.proofs.Laws.Bounds.{*ℤ-bound, fits-width, reads-back}
 use Rattle.dual_problem.specs.Problem.{sign}
 use Rattle.dual_problem.proofs.label.with_sign.Statement.{statement}
 use Rattle.dual_problem.proofs.label.with_sign.Tie as tie

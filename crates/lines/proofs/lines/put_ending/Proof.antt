@@ -1,7 +1,7 @@
 -- `lines::lines::put_ending` meets its contract. Assumes nothing.
 use mathlib.Core.Path.{sym, ap}
 use borrow.Author.Needs.{needs}
-use Rattle.text.specs.Put.Laws.{put-as, room-as}
+use Rattle.text.proofs.Laws.Put.{put-as, room-as}
 use Rattle.lines.specs.Lines.{endingText}
 use Rattle.lines.proofs.lines.put_ending.Statement.{statement}
 use Rattle.lines.proofs.lines.put_ending.Tie as tie

@@ -11,12 +11,12 @@ use Rattle.reading.specs.Reading.{reading}
 use Rattle.reading.specs.Calls.{itemIn, itemsIn}
 use Rattle.dual_problem.specs.Items.{Listed, at as atPlace}
 use Rattle.text.specs.Put.{Put, Room}
-use Rattle.text.specs.Put.Laws.{put-as, put-length, put-none, put-then, room-as, room-then}
+use Rattle.text.proofs.Laws.Put.{put-as, put-length, put-none, put-then, room-as, room-then}
 use Rattle.totals.specs.declared.totals.Shown.{Shown}
 use Rattle.totals.specs.Totals.{both, countAboveZero, sumOver, totals as totalsBelow, totalsOfLine}
-use Rattle.totals.specs.Totals.Laws.{next-fits, totals-next}
+use Rattle.totals.proofs.Laws.Totals.{next-fits, totals-next}
 use Rattle.lines.specs.Lines.{itemLine, itemsWithTotal, joined, shownIn, totalLine}
-use Rattle.lines.specs.Lines.Laws.{joined-rises}
+use Rattle.lines.proofs.Laws.Lines.{joined-rises}
 use Rattle.lines.proofs.lines.put_items.Statement.{statement}
 use Rattle.lines.proofs.lines.put_items.Tie as tie
 

@@ -2,7 +2,7 @@
 use mathlib.Core.List.{[], _∷_}
 use mathlib.Core.Path.{sym, ap}
 use borrow.Author.Needs.{needs}
-use Rattle.text.specs.Put.Laws.{put-as, room-as}
+use Rattle.text.proofs.Laws.Put.{put-as, room-as}
 use Rattle.lines.specs.Lines.{labelSign}
 use Rattle.lines.proofs.lines.put_label.Statement.{statement}
 use Rattle.lines.proofs.lines.put_label.Tie as tie

@@ -1,9 +1,9 @@
 -- `lines::lines::put_record` meets its contract. Assumes nothing.
 use mathlib.Core.Path.{sym, ap}
 use borrow.Author.Needs.{needs}
-use Rattle.text.specs.Put.Laws.{put-as, put-none, room-as}
+use Rattle.text.proofs.Laws.Put.{put-as, put-none, room-as}
 use Rattle.lines.specs.Lines.{recordField}
-use Rattle.lines.specs.Lines.Laws.{record-shown}
+use Rattle.lines.proofs.Laws.Lines.{record-shown}
 use Rattle.lines.proofs.lines.put_record.Statement.{statement}
 use Rattle.lines.proofs.lines.put_record.Tie as tie
 

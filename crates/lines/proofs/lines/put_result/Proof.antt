@@ -3,8 +3,8 @@ use mathlib.Core.Path.{_≡_, sym, ap}
 use borrow.Author.Needs.{needs}
 use mir.Syntax.{w64}
 use mir.Val.{toZ, ofZ}
-use Rattle.integers.specs.Bounds.{reads-element}
-use Rattle.text.specs.Put.Laws.{put-as, put-then, room-as, room-first, room-then}
+use Rattle.integers.proofs.Laws.Bounds.{reads-element}
+use Rattle.text.proofs.Laws.Put.{put-as, put-then, room-as, room-first, room-then}
 use Rattle.lines.specs.Lines.{resultLine, signedField}
 use Rattle.lines.proofs.lines.put_result.Statement.{statement}
 use Rattle.lines.proofs.lines.put_result.Tie as tie

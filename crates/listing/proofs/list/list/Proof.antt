@@ -5,9 +5,9 @@ use borrow.Author.Needs.{needs}
 use Rattle.reading.specs.Reading.{reading}
 use Rattle.reading.specs.Calls.{itemsIn, orderIn}
 use Rattle.dual_problem.specs.Items.{at}
-use Rattle.text.specs.Put.Laws.{put-all, put-as, room-as}
+use Rattle.text.proofs.Laws.Put.{put-all, put-as, room-as}
 use Rattle.listing.specs.Listing.{listing, listingIn, listingOf}
-use Rattle.listing.specs.Listing.Laws.{items-few, listing-fits, listing-trained}
+use Rattle.listing.proofs.Laws.Listing.{items-few, listing-fits, listing-trained}
 use Rattle.listing.proofs.list.list.Statement.{statement}
 use Rattle.listing.proofs.list.list.Tie as tie
 

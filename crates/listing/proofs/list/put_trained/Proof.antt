@@ -6,10 +6,10 @@ use borrow.Author.Needs.{needs}
 use Rattle.reading.specs.Reading.{reading}
 use Rattle.reading.specs.Calls.{itemsIn}
 use Rattle.dual_problem.specs.Items.{Listed}
-use Rattle.text.specs.Put.Laws.{put-as, put-then, room-as, room-first, room-then}
+use Rattle.text.proofs.Laws.Put.{put-as, put-then, room-as, room-first, room-then}
 use Rattle.lines.specs.Lines.{itemsWithTotal, shownIn}
 use Rattle.listing.specs.Listing.{itemCount, listing}
-use Rattle.listing.specs.Listing.Laws.{count-items, reading-listed}
+use Rattle.listing.proofs.Laws.Listing.{count-items, reading-listed}
 use Rattle.listing.proofs.list.put_trained.Statement.{statement}
 use Rattle.listing.proofs.list.put_trained.Tie as tie
 

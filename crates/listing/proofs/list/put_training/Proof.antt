@@ -1,7 +1,7 @@
 -- `listing::list::put_training` meets its contract. Assumes nothing.
 use mathlib.Core.Path.{sym, ap}
 use borrow.Author.Needs.{needs}
-use Rattle.text.specs.Put.Laws.{put-as, room-as}
+use Rattle.text.proofs.Laws.Put.{put-as, room-as}
 use Rattle.listing.specs.Listing.{listing, listingIn}
 use Rattle.listing.proofs.list.put_training.Statement.{statement}
 use Rattle.listing.proofs.list.put_training.Tie as tie

@@ -10,7 +10,7 @@ use Rattle.reading.specs.Reading.{reading}
 use Rattle.certifying.specs.declared.certify.Thresholds.{Thresholds}
 use Rattle.certifying.specs.Certify.{certifying}
 use Rattle.lookahead_c.specs.Certifying.{CertifySeen, SeenDistance, certifySeen}
-use Rattle.lookahead_c.specs.Certifying.Laws.{seen-distance}
+use Rattle.lookahead_c.proofs.Laws.Certifying.{seen-distance}
 use Rattle.lookahead_c.proofs.certify.lookahead_certify.Statement.{statement}
 use Rattle.lookahead_c.proofs.certify.lookahead_certify.Tie as tie
 

@@ -11,7 +11,7 @@ use Rattle.reading.specs.Reading.{reading}
 use Rattle.training.specs.declared.train.Training.{Training}
 use Rattle.training.specs.Train.{trainFile}
 use Rattle.lookahead_c.specs.Training.{SeenQuality, TrainNumbers, TrainSeen, trainSeen}
-use Rattle.lookahead_c.specs.Training.Laws.{seen-quality}
+use Rattle.lookahead_c.proofs.Laws.Training.{seen-quality}
 use Rattle.lookahead_c.proofs.train.lookahead_train.Statement.{statement}
 use Rattle.lookahead_c.proofs.train.lookahead_train.Tie as tie
 

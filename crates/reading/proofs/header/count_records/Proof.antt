@@ -2,7 +2,7 @@
 use mathlib.Core.Path.{ap}
 use borrow.Author.Needs.{needs}
 use Rattle.chain.specs.declared.count.Count.the-variants.{Counted}
-use Rattle.reading.specs.Header.Laws.{length-allowed, length-refused, many-refused, short-refused}
+use Rattle.reading.proofs.Laws.Header.{length-allowed, length-refused, many-refused, short-refused}
 use Rattle.reading.proofs.header.count_records.Statement.{statement}
 use Rattle.reading.proofs.header.count_records.Tie as tie
 

@@ -5,9 +5,9 @@ use native.Mathlib.Omega.{arith}
 use borrow.Author.Needs.{needs}
 use Rattle.training_file.specs.declared.parameters.ParametersAnswer.the-variants.{Refused}
 use Rattle.training_file.specs.Layout.{featuresInUse, firstRecord, kernelByte, recordsStored, secondUnits, spare}
-use Rattle.training_file.specs.Parameters.Laws.{kernel-known, kernel-refused}
+use Rattle.training_file.proofs.Laws.Parameters.{kernel-known, kernel-refused}
 use Rattle.training_file.specs.Answers.{kernelRefusal, parametersAnswer}
-use Rattle.reading.specs.Header.Laws.{first-refused, kernel-refused as header-refused, parameters-decide, spare-refused}
+use Rattle.reading.proofs.Laws.Header.{first-refused, kernel-refused as header-refused, parameters-decide, spare-refused}
 use Rattle.reading.proofs.header.read_parameters.Statement.{statement}
 use Rattle.reading.proofs.header.read_parameters.Tie as tie
 

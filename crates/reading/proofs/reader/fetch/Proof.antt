@@ -2,7 +2,7 @@
 use mathlib.Core.Path.{_∙_}
 use native.Mathlib.Omega.{arith}
 use borrow.Author.Needs.{needs}
-use Rattle.reading.specs.Reading.Laws.Accepted.{tabled-item, tabled-stored}
+use Rattle.reading.proofs.Laws.Reading.Accepted.{tabled-item, tabled-stored}
 use Rattle.reading.proofs.reader.fetch.Statement.{statement}
 use Rattle.reading.proofs.reader.fetch.Tie as tie
 

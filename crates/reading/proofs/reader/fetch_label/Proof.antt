@@ -3,7 +3,7 @@ use mathlib.Core.Path.{ap, _∙_}
 use native.Mathlib.Omega.{arith}
 use borrow.Author.Needs.{needs}
 use Rattle.training_file.specs.declared.item.Item.{Item}
-use Rattle.reading.specs.Reading.Laws.Accepted.{tabled-item, tabled-stored}
+use Rattle.reading.proofs.Laws.Reading.Accepted.{tabled-item, tabled-stored}
 use Rattle.reading.proofs.reader.fetch_label.Statement.{statement}
 use Rattle.reading.proofs.reader.fetch_label.Tie as tie
 

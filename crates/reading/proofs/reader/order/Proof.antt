@@ -1,7 +1,7 @@
 -- `reading::reader::order` meets its contract: a refusal is passed on before the table is written. Assumes nothing.
 use mathlib.Core.Path.{sym, _∙_}
 use borrow.Author.Needs.{needs}
-use Rattle.reading.specs.Calls.Laws.{table-accepted, table-refused}
+use Rattle.reading.proofs.Laws.Calls.{table-accepted, table-refused}
 use Rattle.reading.proofs.reader.order.Statement.{statement}
 use Rattle.reading.proofs.reader.order.Tie as tie
 

@@ -17,14 +17,14 @@ use Rattle.chain.specs.Walk.{ends}
 use Rattle.chain.specs.Chain.{chainOf}
 use Rattle.chain.specs.Records.{every, labelled}
 use Rattle.chain.specs.Stages.{Chained, WholeFile, countIf, countRefusal, judgeAnswer, orderOf, walkAnswer}
-use Rattle.chain.specs.Stages.Laws.{if-counted, if-refused, walk-counted, walk-refused}
+use Rattle.chain.proofs.Laws.Stages.{if-counted, if-refused, walk-counted, walk-refused}
 use Rattle.reading.specs.declared.reader.FileAnswer.the-variants.{Refused, Accepted}
 use Rattle.reading.specs.Header.{headerAllowed, lengthAllowed, parametersOf}
 use Rattle.reading.specs.Reading.{bothLabels, reading}
 use Rattle.reading.specs.Calls.{fileAnswer}
-use Rattle.reading.specs.Header.Laws.{allowed-whole}
-use Rattle.reading.specs.Reading.Laws.{labels-all, labels-both, labels-none, reads-1, reads-2, reads-4, reads-5, reads-all, reads-broken}
-use Rattle.reading.specs.Header.Laws.{header-allowed, header-refused}
+use Rattle.reading.proofs.Laws.Header.{allowed-whole}
+use Rattle.reading.proofs.Laws.Reading.{labels-all, labels-both, labels-none, reads-1, reads-2, reads-4, reads-5, reads-all, reads-broken}
+use Rattle.reading.proofs.Laws.Header.{header-allowed, header-refused}
 use Rattle.reading.proofs.reader.read.Statement.{statement}
 use Rattle.reading.proofs.reader.read.Tie as tie
 

@@ -10,13 +10,13 @@ use lib.Signed.{leZ}
 use mir.Facts.{toZ-pos}
 use mir.Syntax.{w64}
 use mir.Val.{toZ, ofZ}
-use Rattle.integers.specs.Bounds.{+ℤ-bound, fits-width, reads-back}
+use Rattle.integers.proofs.Laws.Bounds.{+ℤ-bound, fits-width, reads-back}
 use Rattle.dual_problem.specs.Size.{gradientMost}
 use Rattle.dual_problem.specs.Problem.{Problem, gradient, bUp, bLow}
 use Rattle.dual_problem.specs.Items.{at, problemOf}
-use Rattle.dual_problem.specs.Items.Laws.{b-low-size, b-up-size}
+use Rattle.dual_problem.proofs.Laws.Items.{b-low-size, b-up-size}
 use Rattle.thresholds.specs.Extremes.{bestValue}
-use Rattle.thresholds.specs.Extremes.Laws.{low-value, up-value}
+use Rattle.thresholds.proofs.Laws.Extremes.{low-value, up-value}
 use Rattle.working_pair.specs.declared.pair.Pair.{Pair}
 use Rattle.working_pair.specs.Step.{workingPair}
 use Rattle.working_pair.specs.Pair.{pairOf}

@@ -9,23 +9,23 @@ use borrow.Author.Needs.{needs}
 use lib.IntN.{ℤ, pos}
 use lib.ListN.{length, getD}
 use Rattle.integers.specs.Written.{written}
-use Rattle.integers.specs.Written.Laws.{length-written, written-same, written-over}
+use Rattle.integers.proofs.Laws.Written.{length-written, written-same, written-over}
 use Rattle.training_file.specs.declared.parameters.Parameters.{Parameters}
 use Rattle.dual_problem.specs.Problem.{Problem, gradient as gradientOf}
 use Rattle.dual_problem.specs.Items.{at, problemOf}
 use Rattle.thresholds.specs.Extremes.{bestValue}
-use Rattle.thresholds.specs.Extremes.Laws.{low-value, up-value}
+use Rattle.thresholds.proofs.Laws.Extremes.{low-value, up-value}
 use Rattle.working_pair.specs.Step.{Candidate}
 use Rattle.working_pair.specs.State.{State}
-use Rattle.working_pair.specs.Step.Laws.{moved-length}
+use Rattle.working_pair.proofs.Laws.Step.{moved-length}
 use Rattle.smo_step.specs.Update.{stepped}
-use Rattle.smo_step.specs.Update.Laws.{step-state}
+use Rattle.smo_step.proofs.Laws.Update.{step-state}
 use Rattle.smo.specs.declared.ending.Ending.{Ending}
 use Rattle.smo.specs.declared.run.Trained.{Trained}
 use Rattle.smo.specs.Run.{Outcome, next, goesOn, run as runOf}
 use Rattle.smo.specs.Run.Meaning.{moreSteps}
 use Rattle.smo.specs.Answer.{decisionEnding, leftWhole, trainedOf, trainedWith}
-use Rattle.smo.specs.Answer.Laws.{decision-ends, decision-moves, loop-ends, loop-spent, loop-steps}
+use Rattle.smo.proofs.Laws.Answer.{decision-ends, decision-moves, loop-ends, loop-spent, loop-steps}
 use Rattle.smo.proofs.run.run.Statement.{statement}
 use Rattle.smo.proofs.run.run.Tie as tie
 

@@ -7,7 +7,7 @@ use lib.IntN.{ℤ, pos, natAbs, _+ℤ_, _-ℤ_, _*ℤ_}
 use mir.Facts.{toZ-pos}
 use mir.Syntax.{w64}
 use mir.Val.{toZ, ofZ}
-use Rattle.integers.specs.Bounds.{+ℤ-bound, -ℤ-bound, *ℤ-bound, fits-width, reads-back}
+use Rattle.integers.proofs.Laws.Bounds.{+ℤ-bound, -ℤ-bound, *ℤ-bound, fits-width, reads-back}
 use Rattle.training_file.specs.Parameters.{ceilingMost}
 use Rattle.dual_problem.specs.Size.{gradientMost, kernelMost, termMost}
 use Rattle.smo_step.proofs.step.shift.Statement.{statement}

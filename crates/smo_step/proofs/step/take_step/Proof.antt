@@ -9,7 +9,7 @@ use lib.IntN.{ℤ, pos, natAbs, _-ℤ_}
 use lib.ListN.{getD, set}
 use mir.Syntax.{w64}
 use mir.Val.{toZ, ofZ}
-use Rattle.integers.specs.Bounds.{fits-width, reads-back}
+use Rattle.integers.proofs.Laws.Bounds.{fits-width, reads-back}
 use Rattle.integers.specs.Written.{written}
 use Rattle.training_file.specs.declared.item.Item.{Item}
 use Rattle.reading.specs.Reading.{reading}
@@ -20,7 +20,7 @@ use Rattle.working_pair.specs.Step.{slope, lowered, raised, fall, rise, amount}
 use Rattle.working_pair.specs.Curvature.{curvatureBetween}
 use Rattle.working_pair.specs.Division.{divided, PairGiven}
 use Rattle.smo_step.specs.Update.{updated, Movable, Updatable}
-use Rattle.smo_step.specs.Update.Laws.{i-listed, j-listed, kept-size, slope-size, step-slope, step-pair, step-movable, step-updatable, step-amount, step-gradient}
+use Rattle.smo_step.proofs.Laws.Update.{i-listed, j-listed, kept-size, slope-size, step-slope, step-pair, step-movable, step-updatable, step-amount, step-gradient}
 use Rattle.smo_step.proofs.step.take_step.Statement.{statement}
 use Rattle.smo_step.proofs.step.take_step.Tie as tie
 

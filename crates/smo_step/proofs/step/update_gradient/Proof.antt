@@ -10,15 +10,15 @@ use lib.IntN.{ℤ, pos, natAbs}
 use lib.ListN.{length, set, getD}
 use mir.Syntax.{w64}
 use mir.Val.{toZ, ofZ}
-use Rattle.integers.specs.Bounds.{reads-back}
+use Rattle.integers.proofs.Laws.Bounds.{reads-back}
 use Rattle.integers.specs.Written.{written}
-use Rattle.integers.specs.Written.Laws.{length-written, written-past}
+use Rattle.integers.proofs.Laws.Written.{length-written, written-past}
 use Rattle.training_file.specs.declared.item.Item.{Item}
 use Rattle.reading.specs.Reading.{reading}
 use Rattle.reading.specs.Calls.{itemsIn, itemIn}
 use Rattle.dual_problem.specs.Size.{gradientMost, termMost}
 use Rattle.dual_problem.specs.Kernel.{kernelBetween}
-use Rattle.dual_problem.specs.Kernel.Laws.{kernel-reads, kernel-sized}
+use Rattle.dual_problem.proofs.Laws.Kernel.{kernel-reads, kernel-sized}
 use Rattle.smo_step.specs.Update.{shifted, updated}
 use Rattle.smo_step.proofs.step.update_gradient.Statement.{statement}
 use Rattle.smo_step.proofs.step.update_gradient.Tie as tie

@@ -8,8 +8,8 @@ use borrow.Author.Needs.{needs}
 use borrow.Fn.Kinds.{In}
 use borrow.Fn.PlainCycle.{Measures, is, falls, and}
 use Rattle.text.specs.Decimal.{decimal}
-use Rattle.text.specs.Decimal.Laws.{decimal-one, decimal-more}
-use Rattle.text.specs.Put.Laws.{put-as, put-then, room-as, room-first, room-then}
+use Rattle.text.proofs.Laws.Decimal.{decimal-one, decimal-more}
+use Rattle.text.proofs.Laws.Put.{put-as, put-then, room-as, room-first, room-then}
 use Rattle.text.proofs.number.put_number.Reads as put-number
 use Rattle.text.proofs.number.put_number.Kinds as put-number-kinds
 use Rattle.text.proofs.number.+put_number.Lts-put_number as put-number-lts

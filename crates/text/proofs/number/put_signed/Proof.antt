@@ -11,10 +11,10 @@ use lib.Signed.{leZ, mag, nonNeg}
 use mir.Facts.{toZ-ofZ}
 use mir.Syntax.{w64}
 use mir.Val.{Fits, SFits, toZ, ofZ}
-use Rattle.integers.specs.Bounds.{fits-width, reads-back}
+use Rattle.integers.proofs.Laws.Bounds.{fits-width, reads-back}
 use Rattle.text.specs.Decimal.{decimal, signedDecimal}
-use Rattle.text.specs.Decimal.Laws.{below-zero, signed-minus, signed-plus}
-use Rattle.text.specs.Put.Laws.{put-as, put-then, room-as, room-first, room-then}
+use Rattle.text.proofs.Laws.Decimal.{below-zero, signed-minus, signed-plus}
+use Rattle.text.proofs.Laws.Put.{put-as, put-then, room-as, room-first, room-then}
 use Rattle.text.proofs.number.put_signed.Statement.{statement}
 use Rattle.text.proofs.number.put_signed.Tie as tie
 

@@ -5,7 +5,7 @@ use native.Mathlib.Numerals.{add-one}
 use native.Mathlib.Omega.{arith}
 use lib.ListN.{length, set, getD, take}
 use lib.Seq.{sets, length-sets, take-all}
-use Rattle.text.specs.Put.Laws.{sets-take}
+use Rattle.text.proofs.Laws.Put.{sets-take}
 use Rattle.text.proofs.text.put_text.Statement.{statement}
 use Rattle.text.proofs.text.put_text.Tie as tie
 

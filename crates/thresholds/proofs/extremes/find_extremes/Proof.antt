@@ -13,13 +13,13 @@ use lib.IntN.{ℤ, pos}
 use lib.ListN.{getD}
 use mir.Syntax.{w64}
 use mir.Val.{toZ, ofZ}
-use Rattle.integers.specs.Bounds.{reads-element}
+use Rattle.integers.proofs.Laws.Bounds.{reads-element}
 use Rattle.integers.specs.Extremum.{extreme, beside}
 use Rattle.dual_problem.specs.Problem.{up, low}
 use Rattle.dual_problem.specs.Items.{at, problemOf}
 use Rattle.thresholds.specs.declared.extremes.Best.{Best}
 use Rattle.thresholds.specs.Extremes.{bestOf, bestBeside, comesFirst}
-use Rattle.thresholds.specs.Extremes.Laws.{best-beside}
+use Rattle.thresholds.proofs.Laws.Extremes.{best-beside}
 use Rattle.thresholds.proofs.extremes.find_extremes.Statement.{statement}
 use Rattle.thresholds.proofs.extremes.find_extremes.Tie as tie
 

@@ -5,7 +5,7 @@ use native.Mathlib.Numerals.{add-one}
 use native.Mathlib.Omega.{arith}
 use lib.ListN.{length, set}
 use Rattle.integers.specs.Written.{written}
-use Rattle.integers.specs.Written.Laws.{length-written}
+use Rattle.integers.proofs.Laws.Written.{length-written}
 use Rattle.training.proofs.train.clear.Statement.{statement}
 use Rattle.training.proofs.train.clear.Tie as tie
 

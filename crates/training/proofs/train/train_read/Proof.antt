@@ -7,13 +7,13 @@ use borrow.Author.Needs.{needs}
 use lib.IntN.{pos}
 use lib.ListN.{length}
 use Rattle.integers.specs.Written.{written}
-use Rattle.integers.specs.Written.Laws.{length-written, written-at, written-over}
+use Rattle.integers.proofs.Laws.Written.{length-written, written-at, written-over}
 use Rattle.dual_problem.specs.Problem.{Problem, gradient as gradientOf}
 use Rattle.dual_problem.specs.Items.{MultipliersListed, at, problemOf}
 use Rattle.working_pair.specs.State.{State}
 use Rattle.smo.specs.Run.{run as runOf, training}
 use Rattle.smo.specs.Answer.{trainedOf}
-use Rattle.training.specs.Train.Laws.{cleared-at, cleared-feasible, cleared-run, cleared-answer, cleared-gradient}
+use Rattle.training.proofs.Laws.Train.{cleared-at, cleared-feasible, cleared-run, cleared-answer, cleared-gradient}
 use Rattle.training.proofs.train.train_read.Statement.{statement}
 use Rattle.training.proofs.train.train_read.Tie as tie
 

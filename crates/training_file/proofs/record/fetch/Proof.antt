@@ -3,7 +3,7 @@ use mathlib.Core.Path.{ap, ap₂, _∙_}
 use lib.ListN.{length}
 use borrow.Author.Needs.{needs}
 use Rattle.training_file.specs.Item.{itemOf}
-use Rattle.training_file.specs.Record.Laws.{features-sixteen}
+use Rattle.training_file.proofs.Laws.Record.{features-sixteen}
 use Rattle.training_file.proofs.record.fetch.Statement.{statement}
 use Rattle.training_file.proofs.record.fetch.Tie as tie
 

@@ -8,7 +8,7 @@ use borrow.Author.Tests.{eq-eqb, ne-eqb, not-true, not-false}
 use Rattle.training_file.specs.Layout.{byteAt, featureBytes, recordStart}
 use Rattle.training_file.specs.Item.{featuresAllowed}
 use Rattle.training_file.specs.Answers.{labelAnswer}
-use Rattle.training_file.specs.Record.Laws.{features-refused, features-sixteen, label-decides, zero-refused}
+use Rattle.training_file.proofs.Laws.Record.{features-refused, features-sixteen, label-decides, zero-refused}
 use Rattle.training_file.proofs.record.judge.Statement.{statement}
 use Rattle.training_file.proofs.record.judge.Tie as tie
 

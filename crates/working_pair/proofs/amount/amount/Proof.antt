@@ -8,8 +8,8 @@ use lib.IntN.{ℤ, pos, negsuc, natAbs}
 use lib.Signed.{_≤ℤ_, nonNeg}
 use mir.Syntax.{w64}
 use mir.Val.{toZ, ofZ}
-use Rattle.integers.specs.Bounds.{reads-back}
-use Rattle.working_pair.specs.Division.Laws.{pos-natAbs, divided-flat, divided-curved}
+use Rattle.integers.proofs.Laws.Bounds.{reads-back}
+use Rattle.working_pair.proofs.Laws.Division.{pos-natAbs, divided-flat, divided-curved}
 use Rattle.working_pair.proofs.amount.amount.Statement.{statement}
 use Rattle.working_pair.proofs.amount.amount.Tie as tie
 

@@ -7,7 +7,7 @@ use lib.IntN.{pos, natAbs}
 use lib.Signed.{_≤ℤ_}
 use mir.Syntax.{w64}
 use mir.Val.{toZ, ofZ}
-use Rattle.integers.specs.Bounds.{reads-back}
+use Rattle.integers.proofs.Laws.Bounds.{reads-back}
 use Rattle.dual_problem.specs.Size.{curvatureMost, gradientMost}
 use Rattle.working_pair.specs.Curvature.{curvatureBetween}
 use Rattle.working_pair.specs.Division.{divided}

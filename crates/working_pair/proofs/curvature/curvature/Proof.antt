@@ -2,7 +2,7 @@
 use mathlib.Core.Path.{_∙_}
 use native.Mathlib.Omega.{arith}
 use borrow.Author.Needs.{needs}
-use Rattle.dual_problem.specs.Kernel.Laws.{kernel-reads, kernel-sized}
+use Rattle.dual_problem.proofs.Laws.Kernel.{kernel-reads, kernel-sized}
 use Rattle.working_pair.proofs.curvature.curvature.Statement.{statement}
 use Rattle.working_pair.proofs.curvature.curvature.Tie as tie
 

@@ -7,10 +7,10 @@ use borrow.Author.Needs.{needs}
 use lib.IntN.{ℤ, pos, natAbs, _+ℤ_, _-ℤ_, _*ℤ_}
 use mir.Syntax.{w64}
 use mir.Val.{toZ, ofZ}
-use Rattle.integers.specs.Bounds.{+ℤ-bound, -ℤ-bound, *ℤ-bound, fits-width, reads-back}
+use Rattle.integers.proofs.Laws.Bounds.{+ℤ-bound, -ℤ-bound, *ℤ-bound, fits-width, reads-back}
 use Rattle.dual_problem.specs.Size.{curvatureMost, kernelMost}
 use Rattle.dual_problem.specs.Kernel.{kernelBetween}
-use Rattle.dual_problem.specs.Kernel.Laws.{kernel-reads}
+use Rattle.dual_problem.proofs.Laws.Kernel.{kernel-reads}
 use Rattle.working_pair.specs.Curvature.{curvatureBetween}
 use Rattle.working_pair.proofs.curvature.curvature_with.Statement.{statement}
 use Rattle.working_pair.proofs.curvature.curvature_with.Tie as tie

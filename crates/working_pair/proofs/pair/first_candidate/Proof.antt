@@ -9,14 +9,14 @@ use Prim.Native.Nat.{ℕ, _-_, _≤_, _<_}
 use native.Mathlib.Omega.{arith}
 use borrow.Author.Count.{below-none, below-more}
 use borrow.Author.Needs.{needs}
-use Rattle.integers.specs.Extremum.Laws.First.{first-none, first-sound}
+use Rattle.integers.proofs.Laws.Extremum.First.{first-none, first-sound}
 use Rattle.dual_problem.specs.Problem.{Problem, up}
 use Rattle.dual_problem.specs.Items.{at, problemOf}
 use Rattle.working_pair.specs.declared.pair.Partner.{Partner}
 use Rattle.working_pair.specs.declared.pair.Partner.the-variants as partner
 use Rattle.working_pair.specs.Step.{moves, candidate, firstCandidate}
 use Rattle.working_pair.specs.Pair.{firstPartner, pairOf, partnerOf}
-use Rattle.working_pair.specs.Step.Laws.WorkingPair.{first-candidate-complete, first-candidate-absent}
+use Rattle.working_pair.proofs.Laws.Step.WorkingPair.{first-candidate-complete, first-candidate-absent}
 use Rattle.working_pair.proofs.pair.first_candidate.Statement.{statement}
 use Rattle.working_pair.proofs.pair.first_candidate.Tie as tie
 

@@ -8,14 +8,14 @@ use Prim.Native.Nat.{ℕ, _-_, _≤_}
 use native.Mathlib.Numerals.{add-one}
 use native.Mathlib.Omega.{arith}
 use borrow.Author.Needs.{needs}
-use Rattle.integers.specs.Test.{&&-true}
+use Rattle.integers.proofs.Laws.Test.{&&-true}
 use Rattle.integers.specs.Extremum.{first, orPlace}
-use Rattle.integers.specs.Extremum.Laws.First.{first-none, first-complete}
+use Rattle.integers.proofs.Laws.Extremum.First.{first-none, first-complete}
 use Rattle.dual_problem.specs.Problem.{Problem, up}
 use Rattle.dual_problem.specs.Items.{at, problemOf}
 use Rattle.working_pair.specs.Step.{moves}
 use Rattle.working_pair.specs.Pair.{TellsMoves, partnerOf}
-use Rattle.working_pair.specs.Pair.Laws.{held-fetched}
+use Rattle.working_pair.proofs.Laws.Pair.{held-fetched}
 use Rattle.working_pair.proofs.pair.first_partner.Statement.{statement}
 use Rattle.working_pair.proofs.pair.first_partner.Tie as tie
 

@@ -11,20 +11,20 @@ use lib.ListN.{getD}
 use lib.Signed.{leZ, ltZ}
 use mir.Syntax.{w64}
 use mir.Val.{toZ, ofZ}
-use Rattle.integers.specs.Bounds.{*ℤ-bound, -ℤ-bound, fits-width, reads-back}
-use Rattle.integers.specs.Order.{leZ-true}
+use Rattle.integers.proofs.Laws.Bounds.{*ℤ-bound, -ℤ-bound, fits-width, reads-back}
+use Rattle.integers.proofs.Laws.Order.{leZ-true}
 use Rattle.training_file.specs.declared.parameters.Parameters.{Parameters}
 use Rattle.reading.specs.Reading.{reading}
 use Rattle.reading.specs.Calls.{itemsIn}
 use Rattle.dual_problem.specs.Size.{gradientMost, kernelMost}
 use Rattle.dual_problem.specs.Kernel.{kernelBetween}
-use Rattle.dual_problem.specs.Kernel.Laws.{kernel-reads, kernel-sized}
+use Rattle.dual_problem.proofs.Laws.Kernel.{kernel-reads, kernel-sized}
 use Rattle.dual_problem.specs.Problem.{Problem, gradient}
-use Rattle.dual_problem.specs.Problem.Laws.{problem-gram}
+use Rattle.dual_problem.proofs.Laws.Problem.{problem-gram}
 use Rattle.dual_problem.specs.Items.{at, problemOf}
-use Rattle.dual_problem.specs.Items.Laws.{gradient-size, kernel-size}
+use Rattle.dual_problem.proofs.Laws.Items.{gradient-size, kernel-size}
 use Rattle.working_pair.specs.Step.{slope, moves}
-use Rattle.working_pair.specs.Step.Laws.{moves-needs-slope}
+use Rattle.working_pair.proofs.Laws.Step.{moves-needs-slope}
 use Rattle.working_pair.specs.Curvature.{curvatureBetween}
 use Rattle.working_pair.specs.Pair.{Held, PairState}
 use Rattle.working_pair.proofs.pair.moves_with.Statement.{statement}

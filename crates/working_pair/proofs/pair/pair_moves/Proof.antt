@@ -1,7 +1,7 @@
 -- `working_pair::pair::pair_moves` meets its contract. Assumes nothing.
 use native.Mathlib.Omega.{arith}
 use borrow.Author.Needs.{needs}
-use Rattle.working_pair.specs.Pair.Laws.{held-fetched}
+use Rattle.working_pair.proofs.Laws.Pair.{held-fetched}
 use Rattle.working_pair.proofs.pair.pair_moves.Statement.{statement}
 use Rattle.working_pair.proofs.pair.pair_moves.Tie as tie
 

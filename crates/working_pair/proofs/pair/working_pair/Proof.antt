@@ -10,7 +10,7 @@ use lib.IntN.{ℤ, pos}
 use lib.ListN.{getD}
 use lib.Signed.{ltZ}
 use Rattle.integers.specs.Extremum.{extreme}
-use Rattle.integers.specs.Extremum.Laws.{Strict, ltZ-strict, gtZ-strict, extreme-sound, extreme-cong}
+use Rattle.integers.proofs.Laws.Extremum.{Strict, ltZ-strict, gtZ-strict, extreme-sound, extreme-cong}
 use Rattle.training_file.specs.declared.parameters.Parameters.{Parameters}
 use Rattle.dual_problem.specs.Problem.{Problem, gradient, up, low}
 use Rattle.dual_problem.specs.Items.{at, problemOf}
@@ -20,7 +20,7 @@ use Rattle.thresholds.specs.Extremes.{bestOf, extremesOf}
 use Rattle.working_pair.specs.Step.{moves, workingPair}
 use Rattle.working_pair.specs.State.{State}
 use Rattle.working_pair.specs.Pair.{PairState, pairOf}
-use Rattle.working_pair.specs.Step.Laws.WorkingPair.{iLow, iUp, working-pair-tried, working-pair-fallback}
+use Rattle.working_pair.proofs.Laws.Step.WorkingPair.{iLow, iUp, working-pair-tried, working-pair-fallback}
 use Rattle.working_pair.proofs.pair.working_pair.Statement.{statement}
 use Rattle.working_pair.proofs.pair.working_pair.Tie as tie
 

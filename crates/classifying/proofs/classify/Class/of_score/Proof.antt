@@ -3,11 +3,11 @@ use mathlib.Core.Path.{_≡_, sym, _∙_, ap, subst}
 use mir.Syntax.{w64}
 use mir.Val.{toZ, ofZ}
 use mir.ValLaws.{toZ-ofZ}
-use Rattle.integers.specs.Order.{ltZ-true, ltZ-false, ≤ℤ-≢-<ℤ}
+use Rattle.integers.proofs.Laws.Order.{ltZ-true, ltZ-false, ≤ℤ-≢-<ℤ}
 use Rattle.classifying.specs.declared.classify.Class.{Class}
 use Rattle.classifying.specs.declared.classify.Class.the-variants.{LookedUp, PassedOver, Undecided}
 use Rattle.classifying.specs.Classify.{classOf}
-use Rattle.classifying.specs.Classify.Laws.{Means, class-exactly}
+use Rattle.classifying.proofs.Laws.Classify.{Means, class-exactly}
 use Rattle.classifying.proofs.classify.Class.of_score.Statement.{statement}
 use Rattle.classifying.proofs.classify.Class.of_score.Tie as tie
 

@@ -2,7 +2,7 @@
 use mathlib.Core.Path.{_∙_}
 use borrow.Author.Needs.{needs}
 use mir.Syntax.{w64}
-use Rattle.integers.specs.Bounds.{reads-element}
+use Rattle.integers.proofs.Laws.Bounds.{reads-element}
 use Rattle.smo.proofs.run.Trained.new.Statement.{statement}
 use Rattle.smo.proofs.run.Trained.new.Tie as tie
 

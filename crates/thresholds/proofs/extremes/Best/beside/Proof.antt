@@ -9,7 +9,7 @@ use lib.Signed.{ltZ}
 use mir.Facts.{toZ-ofZ}
 use mir.Syntax.{w64}
 use mir.Val.{toZ, ofZ}
-use Rattle.integers.specs.Bounds.{reads-element}
+use Rattle.integers.proofs.Laws.Bounds.{reads-element}
 use Rattle.thresholds.specs.declared.extremes.Best.the-variants.{At}
 use Rattle.thresholds.specs.Extremes.{bestBeside, comesFirst}
 use Rattle.thresholds.proofs.extremes.Best.beside.Statement.{statement}

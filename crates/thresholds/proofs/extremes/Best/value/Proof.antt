@@ -2,7 +2,7 @@
 use mathlib.Core.Path.{_∙_, ap, sym}
 use mir.Syntax.{w64}
 use borrow.Author.Needs.{needs}
-use Rattle.integers.specs.Bounds.{reads-element}
+use Rattle.integers.proofs.Laws.Bounds.{reads-element}
 use Rattle.thresholds.specs.Extremes.{bestValue}
 use Rattle.thresholds.proofs.extremes.Best.value.Statement.{statement}
 use Rattle.thresholds.proofs.extremes.Best.value.Tie as tie

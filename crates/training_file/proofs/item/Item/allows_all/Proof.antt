@@ -9,7 +9,7 @@ use lib.Dec.{ltb}
 use borrow.Author.Needs.{needs}
 use borrow.Author.Tests.{not-true, not-false}
 use Rattle.integers.specs.Places.{all}
-use Rattle.integers.specs.Places.Laws.{all-fails}
+use Rattle.integers.proofs.Laws.Places.{all-fails}
 use Rattle.training_file.specs.Layout.{byteAt, featureCount}
 use Rattle.training_file.specs.Item.{featureByteAllowed, featuresAllowed}
 use Rattle.training_file.proofs.item.Item.allows_all.Statement.{statement}

@@ -2,7 +2,7 @@
 use mathlib.Core.Path.{sym, _∙_}
 use borrow.Author.Needs.{needs}
 use borrow.Author.Tests.{not-true, not-false}
-use Rattle.training_file.specs.Parameters.Laws.{budget-decides, ceilings-refused, grid-refused, tolerance-refused, used-refused}
+use Rattle.training_file.proofs.Laws.Parameters.{budget-decides, ceilings-refused, grid-refused, tolerance-refused, used-refused}
 use Rattle.training_file.proofs.parameters.Parameters.allowed.Statement.{statement}
 use Rattle.training_file.proofs.parameters.Parameters.allowed.Tie as tie
 

@@ -1,0 +1,157 @@
+-- Laws of classifying: K of an item and the word either way round, the size of a score, what each class means, the answer by the stage
+-- that gives it, and the answer by multipliers that are all 0. Assumes nothing.
+use mathlib.Core.Path.{_≡_, refl, sym, _∙_, ap, subst}
+use mathlib.Core.Logic.{_↔_}
+use mathlib.Core.Bool.{Bool, true, false, cond, _&&_}
+use mathlib.Core.List.{List, [], _∷_}
+use Prim.Native.Nat.{ℕ, zero, suc, _+_, _*_, _≤_, _<_}
+use native.Mathlib.Omega.{arith}
+use lib.Dec.{eqb}
+use lib.IntN.{ℤ, pos, negsuc, natAbs, _+ℤ_, _-ℤ_, _*ℤ_}
+use lib.ListN.{length}
+use lib.Signed.{_<ℤ_}
+use Rattle.integers.proofs.Laws.Test.{chose-either}
+use Rattle.integers.proofs.Laws.Solver.{con, ⊝_, _⊕_, _⊗_, _⊖_, x₀, solve}
+use Rattle.integers.proofs.Laws.Linear.{integer}
+use Rattle.integers.proofs.Laws.Bounds.{+ℤ-bound, -ℤ-bound, *ℤ-bound}
+use Rattle.training_file.specs.declared.parameters.Parameters.{Parameters}
+use Rattle.training_file.specs.declared.item.Item.{Item}
+use Rattle.training_file.specs.declared.refusal.Refusal.{Refusal}
+use Rattle.training_file.specs.Refusal.{refusal}
+use Rattle.reading.specs.declared.reader.FileAnswer.the-variants as file-answer
+use Rattle.reading.specs.Reading.{Reading, refused, accepted, reading}
+use Rattle.reading.specs.Calls.{itemIn, itemsIn, fileAnswer}
+use Rattle.dual_problem.specs.Kernel.{kernelBetween}
+use Rattle.dual_problem.proofs.Laws.Kernel.{kernelValue-comm, kernelValue-cong}
+use Rattle.dual_problem.specs.Problem.{LabelsPresent, problem}
+use Rattle.dual_problem.proofs.Laws.Problem.Zeros.{b-low-zeros, b-up-zeros, zeros-weighed}
+use Rattle.dual_problem.specs.Items.{at, weighedSum}
+use Rattle.dual_problem.specs.Size.{gradientMost, scoreMost, weighedMost}
+use Rattle.dual_problem.proofs.Laws.Items.Read.{Read, labels-present}
+use Rattle.certifying.specs.declared.certify.Thresholds.{Thresholds}
+use Rattle.certifying.specs.declared.multipliers.Judgement.{Judgement}
+use Rattle.certifying.specs.declared.multipliers.Judgement.the-variants as judged
+use Rattle.certifying.specs.Multipliers.{balance, isZero, judgement, withinCeilings}
+use Rattle.certifying.proofs.Laws.Multipliers.{verdict}
+use Rattle.classifying.specs.declared.classify.Class.{Class}
+use Rattle.classifying.specs.declared.classify.Class.the-variants.{LookedUp, PassedOver, Undecided}
+use Rattle.classifying.specs.declared.classify.Classified.{Classified}
+use Rattle.classifying.specs.declared.classify.Classified.the-variants.{Refused, Is}
+use Rattle.classifying.specs.Classify.{SameFeatures, classOf, classifyItems, classifyJudged, classifyRead, classifying, score, scoreWith, wordAllowed, wordKernel}
+
+-- ---- the kernel
+-- a list with the word's features, compared with an item, gives K of the item and the word
+pub wordKernel-is : (p : Parameters) (items : List Item) (xs word : List ℤ) → SameFeatures xs word → (i : ℕ) → kernelBetween p xs (itemIn items i .features) ≡ wordKernel p items word i
+wordKernel-is p items xs word e i =
+    kernelValue-cong (p .kernel) (p .used) xs word (itemIn items i .features) e ∙ kernelValue-comm (p .kernel) (p .used) word (itemIn items i .features)
+
+-- ---- how large a doubled score and its parts are, by the sum over the items and the thresholds
+module _ (p : Parameters) (items : List Item) (a : ℕ → ℕ) (thresholds : Thresholds) (word : List ℤ) where
+  abbrev whole : ℤ
+  whole = weighedSum (problem p items) a (wordKernel p items word)
+
+  pub score-size : natAbs whole ≤ weighedMost → natAbs (thresholds .lower) ≤ gradientMost → natAbs (thresholds .upper) ≤ gradientMost
+      → (natAbs (pos 2 *ℤ whole) ≤ 2 * weighedMost)
+      × (natAbs (thresholds .lower +ℤ thresholds .upper) ≤ gradientMost + gradientMost)
+      × (natAbs (scoreWith p items a thresholds word) ≤ scoreMost)
+  unfolding scoreWith
+  score-size h l u =
+      let twice = *ℤ-bound (pos 2) whole {A = 2} (omega arith) h in
+      let both = +ℤ-bound (thresholds .lower) (thresholds .upper) l u in
+      (twice, both, -ℤ-bound (pos 2 *ℤ whole) (thresholds .lower +ℤ thresholds .upper) twice both)
+
+-- ---- the class of a score
+-- what a class means
+abbrev pub Means : Class → ℤ → Type 0
+Means LookedUp value = pos 0 <ℤ value
+Means PassedOver value = value <ℤ pos 0
+Means Undecided value = value ≡ pos 0
+
+class-means : (value : ℤ) → Means (classOf value) value
+class-means (pos (suc n)) = omega (arith, integer)
+class-means (pos zero) = refl
+class-means (negsuc n) = omega (arith, integer)
+
+means-class : (class : Class) (value : ℤ) → Means class value → classOf value ≡ class
+means-class LookedUp (pos (suc n)) h = refl
+means-class LookedUp (pos zero) h = absurd (omega (arith, integer))
+means-class LookedUp (negsuc n) h = absurd (omega (arith, integer))
+means-class PassedOver (pos n) h = absurd (omega (arith, integer))
+means-class PassedOver (negsuc n) h = refl
+means-class Undecided value h = ap classOf h
+
+-- a score has a class exactly where it is as the class means
+pub class-exactly : (class : Class) (value : ℤ) → (classOf value ≡ class) ↔ Means class value
+class-exactly class value = (λ e. subst (λ k. Means k value) e (class-means value), means-class class value)
+
+-- ---- the answer, by the stage that gives it
+-- a refusal of the file is the answer
+pub classify-refused : (r : Reading) (a : List ℕ) (word : List ℤ) (why : Refusal) → fileAnswer r ≡ file-answer.Refused why → classifyRead r a word ≡ Refused why
+classify-refused (refused met) a word why e = let q : met ≡ why = cc in ap Refused q
+classify-refused (accepted p order items) a word why e = let z : _≡_ {A = ℕ} 0 1 = cc in absurd (omega arith)
+
+-- a file that was read is classified by its items
+pub classify-read : (file a : List ℕ) (word : List ℤ) {p : Parameters} {n : ℕ} → Read file p n → classifyItems p (itemsIn (reading file)) a word ≡ classifying file a word
+classify-read file a word {p} r = ap (λ x. classifyItems p (itemsIn x) a word) (r .is) ∙ sym (ap (λ x. classifyRead x a word) (r .is))
+
+module _ (p : Parameters) (items : List Item) (a : List ℕ) (word : List ℤ) where
+  abbrev pub class : Classified
+  class = Is (classOf (score p items (at a) word))
+
+  -- the numbers 6 to 9 are met in this order
+  pub refusals-in-order : classifyItems p items a word
+      ≡ cond (eqb (length a) (length items) && eqb (length word) (p .used))
+      (cond (withinCeilings (length items) (problem p items) (at a))
+      (cond (isZero (balance (problem p items) (at a)))
+      (cond (wordAllowed word) class (Refused (refusal 9)))
+      (Refused (refusal 8)))
+      (Refused (refusal 7)))
+      (Refused (refusal 6))
+  refusals-in-order =
+      by (eqb (length a) (length items)) (eqb (length word) (p .used)) (withinCeilings (length items) (problem p items) (at a)) (isZero (balance (problem p items) (at a)))
+    where
+      by : (s d t u : Bool) → cond d (classifyJudged p items a word (verdict s t u)) (Refused (refusal 6))
+          ≡ cond (s && d) (cond t (cond u (cond (wordAllowed word) class (Refused (refusal 9))) (Refused (refusal 8))) (Refused (refusal 7))) (Refused (refusal 6))
+      by true true true true = refl
+      by true true true false = refl
+      by true true false u = refl
+      by true false t u = refl
+      by false true t u = refl
+      by false false t u = refl
+
+  -- what the word's length and the judging answer decides
+  pub items-are : {d : Bool} {j : Judgement} → eqb (length word) (p .used) ≡ d → judgement (problem p items) a ≡ j
+      → classifyItems p items a word ≡ cond d (classifyJudged p items a word j) (Refused (refusal 6))
+  items-are e f = λ i. cond (e i) (classifyJudged p items a word (f i)) (Refused (refusal 6))
+
+  -- feasible multipliers and d features: the range of the features decides
+  pub feasible-are : {t : Bool} → eqb (length word) (p .used) ≡ true → judgement (problem p items) a ≡ judged.Feasible → wordAllowed word ≡ t
+      → classifyItems p items a word ≡ cond t class (Refused (refusal 9))
+  feasible-are e f g = items-are e f ∙ (λ i. cond (g i) class (Refused (refusal 9)))
+
+-- ---- multipliers that are all 0, as a training of no step leaves them
+zeros-score : (p : Parameters) (items : List Item) (a : ℕ → ℕ) → ((i : ℕ) → i < length items → a i ≡ 0) → LabelsPresent (problem p items) → (word : List ℤ)
+    → score p items a word ≡ pos 0
+unfolding scoreWith
+zeros-score p items a zeros present word =
+    let P = problem p items in
+    (λ i. pos 2 *ℤ zeros-weighed P a zeros (wordKernel p items word) i -ℤ (b-low-zeros P a zeros present i +ℤ b-up-zeros P a zeros present i))
+    ∙ solve (pos (p .grid) ∷ []) (con (pos 2) ⊗ con (pos 0) ⊖ (x₀ ⊕ ⊝ x₀)) (con (pos 0)) refl
+
+-- a refusal, or undecided
+abbrev pub UndecidedUnlessRefused : Classified → Type 0
+UndecidedUnlessRefused (Refused why) = Unit {0}
+UndecidedUnlessRefused (Is class) = class ≡ Undecided
+
+-- with such multipliers a word that isn't refused is undecided
+pub zeros-undecided : (file a : List ℕ) (word : List ℤ) → ((i : ℕ) → at a i ≡ 0) → UndecidedUnlessRefused (classifying file a word)
+zeros-undecided file a word zeros = by (reading file) refl
+  where
+    by : (r : Reading) → reading file ≡ r → UndecidedUnlessRefused (classifyRead r a word)
+    by (refused why) e = tt
+    by (accepted p order items) e = chose-either UndecidedUnlessRefused (eqb (length word) (p .used)) (by-judgement (judgement (problem p items) a)) tt
+      where
+        by-judgement : (j : Judgement) → UndecidedUnlessRefused (classifyJudged p items a word j)
+        by-judgement (judged.Refused why) = tt
+        by-judgement judged.Feasible =
+            chose-either UndecidedUnlessRefused (wordAllowed word) (ap classOf (zeros-score p items (at a) (λ i l. zeros i) (labels-present file p order items e) word)) tt

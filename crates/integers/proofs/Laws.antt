@@ -1,0 +1,13 @@
+-- The laws that the proofs of every crate above cite: of ℤ and of tests, and those of X in specs/ in Laws/X.antt. No contract cites them.
+-- Assumes nothing.
+pub mod Test
+pub mod Ring
+pub mod Solver
+pub mod Linear
+pub mod Order
+pub mod Sum
+pub mod Bounds
+pub mod Places
+pub mod Written
+pub mod Extremum
+pub mod Gram

@@ -1,0 +1,91 @@
+-- Each call ends with the refusals named for it, and no others. Assumes nothing.
+use mathlib.Core.Path.{_≡_, refl}
+use mathlib.Core.Bool.{_&&_}
+use mathlib.Core.List.{List}
+use Prim.Native.Nat.{ℕ, _≤_}
+use native.Mathlib.Omega.{arith}
+use lib.Dec.{eqb, leb}
+use lib.IntN.{ℤ}
+use lib.ListN.{length}
+use Rattle.integers.proofs.Laws.Test.{chose-either}
+use Rattle.training_file.specs.declared.parameters.Parameters.{Parameters}
+use Rattle.training_file.specs.declared.item.Item.{Item}
+use Rattle.training_file.specs.Refusal.{Within, alone, refusal}
+use Rattle.training_file.proofs.Laws.Refusal.{within-more}
+use Rattle.reading.specs.Reading.{Reading, refused, accepted, reading}
+use Rattle.reading.specs.Calls.{fileAnswer}
+use Rattle.reading.proofs.Laws.Reading.Fault.{refused-within}
+use Rattle.dual_problem.specs.Problem.{Problem, problem}
+use Rattle.dual_problem.specs.Items.{at}
+use Rattle.certifying.specs.declared.certify.Certified.the-variants as certified
+use Rattle.certifying.specs.declared.multipliers.Judgement.{Judgement}
+use Rattle.certifying.specs.declared.multipliers.Judgement.the-variants as judged
+use Rattle.certifying.specs.Multipliers.{balance, isZero, judgement, withinCeilings}
+use Rattle.certifying.specs.Certify.{certifying, certifyJudged, certifyRead}
+use Rattle.training.specs.declared.train.Training.the-variants as training
+use Rattle.training.specs.Train.{TrainingLeft, trainFile, trainRead}
+use Rattle.classifying.specs.declared.classify.Classified.the-variants as classified
+use Rattle.classifying.specs.Classify.{classifying, classifyItems, classifyJudged, classifyRead, wordAllowed}
+use Rattle.lookahead_c.specs.Refusals.{CertifyRefusals, ClassifyRefusals, ReadRefusals, TrainRefusals}
+
+-- ---- reading: 1 to 5 and 16
+pub read-refusals : (file : List ℕ) → ReadRefusals (fileAnswer (reading file))
+read-refusals file = by (reading file) refl where
+  by : (x : Reading) → reading file ≡ x → ReadRefusals (fileAnswer x)
+  by (refused why) e = refused-within file why e
+  by (accepted p order items) e = tt
+
+-- ---- the refusals that a caller can cause carry no record
+caused : (most number : ℕ) → 6 ≤ number → number ≤ most → Within most (refusal number)
+caused most number l u = alone (omega arith) u (λ q. omega arith) refl
+
+-- ---- training: 1 to 6 and 16
+pub train-refusals : (file a : List ℕ) (g : List ℤ) → TrainRefusals (trainFile file a g .answer)
+train-refusals file a g = by (reading file) refl where
+  by : (x : Reading) → reading file ≡ x → TrainRefusals (trainRead x a g .answer)
+  by (refused why) e = within-more 5 6 why (omega arith) (refused-within file why e)
+  by (accepted p order items) e =
+      chose-either (λ (left : TrainingLeft). TrainRefusals (left .answer)) (leb (length items) (length a) && leb (length items) (length g)) tt
+      (caused 6 6 (omega arith) (omega arith))
+
+-- ---- judged multipliers: 6 to 8
+abbrev JudgedRefusals : Judgement → Type 0
+JudgedRefusals (judged.Refused why) = Within 8 why
+JudgedRefusals judged.Feasible = Unit {0}
+
+judged-refusals : (P : Problem) (a : List ℕ) → JudgedRefusals (judgement P a)
+judged-refusals P a =
+    chose-either JudgedRefusals (eqb (length a) (P .count))
+    (chose-either JudgedRefusals (withinCeilings (P .count) P (at a))
+    (chose-either JudgedRefusals (isZero (balance P (at a))) tt (caused 8 8 (omega arith) (omega arith)))
+    (caused 8 7 (omega arith) (omega arith)))
+    (caused 8 6 (omega arith) (omega arith))
+
+-- ---- certifying: 1 to 8 and 16
+certify-judged : (P : Problem) (a : List ℕ) (j : Judgement) → JudgedRefusals j → CertifyRefusals (certifyJudged P a j)
+certify-judged P a (judged.Refused why) n = n
+certify-judged P a judged.Feasible n = tt
+
+pub certify-refusals : (file a : List ℕ) → CertifyRefusals (certifying file a)
+certify-refusals file a = by (reading file) refl where
+  by : (x : Reading) → reading file ≡ x → CertifyRefusals (certifyRead x a)
+  by (refused why) e = within-more 5 8 why (omega arith) (refused-within file why e)
+  by (accepted p order items) e = certify-judged (problem p items) a (judgement (problem p items) a) (judged-refusals (problem p items) a)
+
+-- ---- classifying: 1 to 9 and 16
+module _ (p : Parameters) (items : List Item) (a : List ℕ) (word : List ℤ) where
+  classify-judged : (j : Judgement) → JudgedRefusals j → ClassifyRefusals (classifyJudged p items a word j)
+  classify-judged (judged.Refused why) n = within-more 8 9 why (omega arith) n
+  classify-judged judged.Feasible n = chose-either ClassifyRefusals (wordAllowed word) tt (caused 9 9 (omega arith) (omega arith))
+
+  classify-items : ClassifyRefusals (classifyItems p items a word)
+  classify-items =
+      chose-either ClassifyRefusals (eqb (length word) (p .used))
+      (classify-judged (judgement (problem p items) a) (judged-refusals (problem p items) a))
+      (caused 9 6 (omega arith) (omega arith))
+
+pub classify-refusals : (file a : List ℕ) (word : List ℤ) → ClassifyRefusals (classifying file a word)
+classify-refusals file a word = by (reading file) refl where
+  by : (x : Reading) → reading file ≡ x → ClassifyRefusals (classifyRead x a word)
+  by (refused why) e = within-more 5 9 why (omega arith) (refused-within file why e)
+  by (accepted p order items) e = classify-items p items a word

@@ -1,0 +1,142 @@
+-- What holds of every accepted file: the laws that the layers above rely on. Assumes nothing.
+use mathlib.Core.Path.{_≡_, refl, sym, ap, subst, _∙_}
+use mathlib.Core.Bool.{Bool, true}
+use mathlib.Core.List.{List, [], _∷_, map}
+use Prim.Native.Nat.{ℕ, zero, suc, _+_, _≤_, _<_, suc-le-suc}
+use native.Mathlib.Nat.{le-of-suc-le-suc}
+use native.Mathlib.Omega.{arith}
+use lib.Dec.{leb}
+use lib.IntN.{pos, natAbs}
+use lib.ListN.{length, getD, length-map}
+use borrow.Author.Tests.{leb-true}
+use Rattle.integers.proofs.Laws.Test.{&&-both}
+use Rattle.training_file.specs.declared.parameters.Parameters.{Parameters}
+use Rattle.training_file.specs.declared.item.Label.{Label}
+use Rattle.training_file.specs.declared.item.Label.the-variants.{LookedUp, PassedOver}
+use Rattle.training_file.specs.declared.item.Item.{Item}
+use Rattle.training_file.specs.Layout.{featureBytes, featureCount, firstRecord, nextOf, recordsStored}
+use Rattle.training_file.specs.Parameters.{Ranges, recordsMost}
+use Rattle.training_file.proofs.Laws.Parameters.{allowed-ranges}
+use Rattle.training_file.specs.Item.{featureMost, featuresAllowed, same}
+use Rattle.training_file.specs.Record.{Stored, itemAt, recordAllowed}
+use Rattle.training_file.proofs.Laws.Item.{features-most, features-past}
+use Rattle.training_file.proofs.Laws.Record.{features-sixteen, record-features}
+use Rattle.chain.specs.Records.{every, labelled}
+use Rattle.chain.proofs.Laws.Chain.{chain-ends, chain-length}
+use Rattle.chain.proofs.Laws.Stages.{order-stored}
+use Rattle.reading.specs.Header.{parametersOf}
+use Rattle.reading.specs.Reading.{reading}
+use Rattle.reading.specs.Calls.{Tabled, itemIn, itemsIn, orderIn, tableAfter}
+use Rattle.reading.proofs.Laws.Header.{header-parameters}
+use Rattle.reading.proofs.Laws.Reading.{AcceptedFile, labels-sum}
+use Rattle.reading.proofs.Laws.Calls.{accepted-chained, accepted-order, counted-accepted, table-serves}
+
+-- ---- lists
+
+every-at : (test : ℕ → Bool) (rs : List ℕ) → every test rs ≡ true → (k : ℕ) → k < length rs → test (getD rs k 0) ≡ true
+unfolding every
+every-at test [] h k l = absurd (omega arith)
+every-at test (r ∷ rs) h zero l = &&-both (test r) (every test rs) h .0
+every-at test (r ∷ rs) h (suc k) l = every-at test rs (&&-both (test r) (every test rs) h .1) k (le-of-suc-le-suc l)
+
+getD-map-in : (f : ℕ → Item) (rs : List ℕ) (k : ℕ) (d : Item) → k < length rs → getD (map f rs) k d ≡ f (getD rs k 0)
+getD-map-in f [] k d l = absurd (omega arith)
+getD-map-in f (r ∷ rs) zero d l = refl
+getD-map-in f (r ∷ rs) (suc k) d l = getD-map-in f rs k d (le-of-suc-le-suc l)
+
+-- a label that some item has stands at some place
+labelled-at : (label : Label) (items : List Item) → 1 ≤ labelled label items → (k : ℕ) × (k < length items) × (itemIn items k .label ≡ label)
+unfolding labelled
+labelled-at label [] h = absurd (omega arith)
+labelled-at label (item ∷ items) h = here label (item .label) refl (labelled-at label items) h
+  where
+    here : (a b : Label) → item .label ≡ b
+        → (1 ≤ labelled a items → (k : ℕ) × (k < length items) × (itemIn items k .label ≡ a))
+        → 1 ≤ same a b + labelled a items → (k : ℕ) × (k < suc (length items)) × (itemIn (item ∷ items) k .label ≡ a)
+    here LookedUp LookedUp e rest l = (0, omega arith, e)
+    here PassedOver PassedOver e rest l = (0, omega arith, e)
+    here LookedUp PassedOver e rest l = let r = rest (omega arith) in (suc (r .0), suc-le-suc (r .1), r .2)
+    here PassedOver LookedUp e rest l = let r = rest (omega arith) in (suc (r .0), suc-le-suc (r .1), r .2)
+
+-- ---- an accepted file
+
+module _ (file : List ℕ) (p : Parameters) (rs : List ℕ) (items : List Item) (a : AcceptedFile file p rs items) where
+  pub accepted-ranges : Ranges p
+  accepted-ranges = subst Ranges (sym (a .parameters-are)) (allowed-ranges (parametersOf file) (header-parameters file (a .header-is)))
+
+  -- there are as many items as record numbers
+  pub items-counted : length items ≡ length rs
+  items-counted = ap length (a .items-are) ∙ length-map rs (itemAt file)
+
+  -- each record number is that of a record that stands in the file
+  pub numbers-stored : (k : ℕ) → k < length rs → Stored file (getD rs k 0)
+  numbers-stored k h =
+      order-stored file (length rs) (accepted-chained file p rs items a) k (getD rs k 0) h
+      (ap (λ (order : List ℕ). getD order k 0) (sym (accepted-order file p rs items a)))
+
+  pub numbers-within : (k : ℕ) → k < length rs → (1 ≤ getD rs k 0) × (getD rs k 0 ≤ recordsMost)
+  numbers-within k h = let s = numbers-stored k h in let f = accepted-chained file p rs items a .file-whole in (omega arith, omega arith)
+
+  -- the item at a place is that of the record there
+  pub item-is : (k : ℕ) → k < length rs → itemIn items k ≡ itemAt file (getD rs k 0)
+  item-is k h = ap (λ (is : List Item). itemIn is k) (a .items-are) ∙ getD-map-in (itemAt file) rs k _ h
+
+  -- each label has an item
+  labels-both : (leb 1 (labelled LookedUp items) ≡ true) × (leb 1 (labelled PassedOver items) ≡ true)
+  labels-both = &&-both (leb 1 (labelled LookedUp items)) (leb 1 (labelled PassedOver items)) (a .labels-are)
+
+  some-labelled : (label : Label) → 1 ≤ labelled label items
+  some-labelled LookedUp = leb-true 1 (labelled LookedUp items) (labels-both .0)
+  some-labelled PassedOver = leb-true 1 (labelled PassedOver items) (labels-both .1)
+
+  pub label-at : (label : Label) → (k : ℕ) × (k < length items) × (itemIn items k .label ≡ label)
+  label-at label = labelled-at label items (some-labelled label)
+
+  -- so there are at least two items, and at most as many as records
+  pub items-least : 2 ≤ length items
+  items-least = omega (arith, labels-sum items, some-labelled LookedUp, some-labelled PassedOver)
+
+  pub items-most : length items ≤ recordsMost
+  items-most =
+      omega (
+        arith,
+        items-counted,
+        accepted-chained file p rs items a .file-whole .most,
+        chain-length (nextOf file) (recordsStored file) (firstRecord file) rs (chain-ends (nextOf file) (recordsStored file) (firstRecord file) rs .0 (a .chain-is)),
+      )
+
+  -- the features of each item
+  module _ (k : ℕ) (h : k < length rs) where
+    record-allowed : featuresAllowed (p .used) (featureBytes file (getD rs k 0)) ≡ true
+    record-allowed = record-features (p .used) file (getD rs k 0) (every-at (recordAllowed (p .used) file) rs (a .records-are) k h)
+
+    pub item-features-most : (i : ℕ) → natAbs (getD (itemIn items k .features) i (pos 0)) ≤ featureMost
+    item-features-most i =
+        rw (item-is k h) (features-most (p .used) (featureBytes file (getD rs k 0)) record-allowed (features-sixteen file (getD rs k 0) (numbers-stored k h)) i)
+
+    pub item-features-past : (i : ℕ) → p .used ≤ i → getD (itemIn items k .features) i (pos 0) ≡ pos 0
+    item-features-past i l =
+        rw (item-is k h) (features-past (p .used) (featureBytes file (getD rs k 0)) record-allowed (features-sixteen file (getD rs k 0) (numbers-stored k h)) i l)
+
+    pub item-features-sixteen : length (itemIn items k .features) ≡ featureCount
+    item-features-sixteen = rw (item-is k h, length-map) (features-sixteen file (getD rs k 0) (numbers-stored k h))
+
+-- ---- an item that is fetched by its place
+
+module _ (file table : List ℕ) (k : ℕ) (t : Tabled file table k) where
+  pub tabled-stored : Stored file (getD table k 0)
+  tabled-stored =
+      let a = counted-accepted file k (t .counted) in
+      subst (Stored file) (sym (t .same)) (numbers-stored file (a .0) _ _ (a .1) k (t .counted))
+
+  pub tabled-item : itemAt file (getD table k 0) ≡ itemIn (itemsIn (reading file)) k
+  tabled-item =
+      let a = counted-accepted file k (t .counted) in
+      ap (itemAt file) (t .same) ∙ sym (item-is file (a .0) _ _ (a .1) k (t .counted))
+
+-- a table of 256 places serves every place of every accepted file
+pub full-table-serves : (file table : List ℕ) (k : ℕ) → recordsMost ≤ length table → k < length (orderIn (reading file))
+    → Tabled file (tableAfter (reading file) table) k
+full-table-serves file table k room h =
+    let a = counted-accepted file k h in
+    table-serves file table k (omega (arith, items-counted file (a .0) _ _ (a .1), items-most file (a .0) _ _ (a .1))) h

@@ -1,0 +1,73 @@
+-- Laws of the answers: a decision is what the rule does next, and a loop that counts its steps comes to the run's outcome. Assumes
+-- nothing.
+use mathlib.Core.Path.{_≡_, refl, sym, _∙_, ap}
+use mathlib.Core.Bool.{Bool, true, false}
+use mathlib.Core.Option.{Option, none, some}
+use mathlib.Core.List.{List}
+use Prim.Native.Nat.{ℕ, suc, _+_, _-_, _*_, _<_}
+use native.Mathlib.Nat.{add-zero}
+use native.Mathlib.Omega.{arith}
+use lib.IntN.{pos, _+ℤ_}
+use lib.Signed.{leZ}
+use Rattle.dual_problem.specs.Problem.{Problem, bUp, bLow}
+use Rattle.dual_problem.specs.Items.{at}
+use Rattle.working_pair.specs.Step.{Candidate, workingPair}
+use Rattle.working_pair.proofs.Laws.Step.WorkingPair.{working-pair-sound}
+use Rattle.working_pair.specs.Pair.{pairOf}
+use Rattle.smo_step.specs.Update.{stepped}
+use Rattle.smo.specs.declared.ending.Ending.{Ending}
+use Rattle.smo.specs.declared.ending.Ending.the-variants.{Converged, Stuck, Spent}
+use Rattle.smo.specs.declared.run.Decision.the-variants.{Ends, Moves}
+use Rattle.smo.specs.Run.{Outcome, next, ends, goesOn, run}
+use Rattle.smo.specs.Run.Meaning.{moreSteps}
+use Rattle.smo.proofs.Laws.Run.{next-converged, next-stuck, next-moves, run-ends, run-spent, run-goes-on}
+use Rattle.smo.specs.Answer.{decided, decision}
+
+module _ (P : Problem) (t : ℕ) (a : List ℕ) where
+  test : Bool
+  test = leZ (bLow P (at a)) (bUp P (at a) +ℤ pos (2 * t))
+
+  decision-by : {x : Bool} {w : Option (ℕ × ℕ)} → test ≡ x → workingPair P a ≡ w → decision P t a ≡ decided x (pairOf w)
+  unfolding test
+  decision-by f g = λ i. decided (f i) (pairOf (g i))
+
+  pub decision-ends : {e : Ending} → decision P t a ≡ Ends e → next P t a ≡ ends e
+  unfolding test
+  decision-ends {e} h = by test (workingPair P a) refl refl
+    where
+      by : (x : Bool) (w : Option (ℕ × ℕ)) → test ≡ x → workingPair P a ≡ w → next P t a ≡ ends e
+      by true w f g = let p = decision-by f g in let q : Converged ≡ e = cc in next-converged P t a f ∙ ap ends q
+      by false none f g = let p = decision-by f g in let q : Stuck ≡ e = cc in next-stuck P t a f g ∙ ap ends q
+      by false (some ij) f g = let p = decision-by f g in let q : _≡_ {A = ℕ} 0 1 = cc in absurd (omega arith)
+
+  pub decision-moves : {i j : ℕ} → decision P t a ≡ Moves i j → (next P t a ≡ goesOn (stepped P a i j)) × Candidate P a i j
+  unfolding test
+  decision-moves {i} {j} h = by test (workingPair P a) refl refl
+    where
+      by : (x : Bool) (w : Option (ℕ × ℕ)) → test ≡ x → workingPair P a ≡ w → (next P t a ≡ goesOn (stepped P a i j)) × Candidate P a i j
+      by true w f g = let p = decision-by f g in let q : _≡_ {A = ℕ} 0 1 = cc in absurd (omega arith)
+      by false none f g = let p = decision-by f g in let q : _≡_ {A = ℕ} 0 1 = cc in absurd (omega arith)
+      by false (some ij) f g =
+          let p : decided false (pairOf (some ij)) ≡ Moves i j = sym (decision-by f g) ∙ h in
+          let q : ij .0 ≡ i = cc in
+          let r : ij .1 ≡ j = cc in
+          let w : workingPair P a ≡ some (i, j) = g ∙ (λ k. some (q k, r k)) in
+          (next-moves P t a f w, working-pair-sound P a w)
+
+-- ---- a loop that has taken k of its steps and is at a, where o is the outcome that it is to come to
+module _ (P : Problem) (t limit k : ℕ) (a : List ℕ) {o : Outcome} (so-far : o ≡ moreSteps k (run P t (limit - k) a)) where
+  pub loop-ends : {e : Ending} → next P t a ≡ ends e → o ≡ record { ending = e; steps = k; multipliers = a }
+  loop-ends {e} h = so-far ∙ ap (moreSteps k) (run-ends P t (limit - k) a h) ∙ (λ d. record { ending = e; steps = add-zero k d; multipliers = a })
+
+  pub loop-spent : {b : List ℕ} → k ≡ limit → next P t a ≡ goesOn b → o ≡ record { ending = Spent; steps = k; multipliers = a }
+  loop-spent e h =
+      let z : limit - k ≡ 0 = omega arith in
+      so-far ∙ ap (λ l. moreSteps k (run P t l a)) z ∙ ap (moreSteps k) (run-spent P t a h) ∙ (λ d. record { ending = Spent; steps = add-zero k d; multipliers = a })
+
+  pub loop-steps : {b : List ℕ} → k < limit → next P t a ≡ goesOn b → o ≡ moreSteps (k + 1) (run P t (limit - (k + 1)) b)
+  loop-steps {b} l h =
+      let z : limit - k ≡ suc (limit - (k + 1)) = omega arith in
+      let r = run P t (limit - (k + 1)) b in
+      let s : k + suc (r .steps) ≡ k + 1 + r .steps = omega arith in
+      so-far ∙ ap (λ l. moreSteps k (run P t l a)) z ∙ ap (moreSteps k) (run-goes-on P t (limit - (k + 1)) a h)
+      ∙ (λ d. record { ending = r .ending; steps = s d; multipliers = r .multipliers })

@@ -1,0 +1,130 @@
+-- Laws of training: a run on the lent lists, cleared, is the run of the rule, and demand 3 holds of what it leaves. Assumes nothing.
+use mathlib.Core.Path.{_≡_, refl, sym, _∙_, ap, subst}
+use mathlib.Core.Bool.{Bool, true, false, cond, _&&_}
+use mathlib.Core.List.{List, _++_}
+use Prim.Native.Nat.{ℕ, _≤_, _<_}
+use native.Mathlib.Omega.{arith}
+use borrow.Author.Tests.{leb-true}
+use lib.Dec.{leb}
+use lib.IntN.{ℤ}
+use lib.ListN.{length, getD-replicate, take, drop}
+use lib.Seq.{take-append-seam}
+use Rattle.integers.proofs.Laws.Test.{&&-left}
+use Rattle.integers.specs.Written.{written}
+use Rattle.integers.proofs.Laws.Written.{written-at, written-cong, written-front}
+use Rattle.training_file.specs.declared.parameters.Parameters.{Parameters}
+use Rattle.training_file.specs.declared.item.Item.{Item}
+use Rattle.training_file.specs.declared.refusal.Refusal.{Refusal}
+use Rattle.training_file.specs.Refusal.{refusal}
+use Rattle.reading.specs.declared.reader.FileAnswer.the-variants as file-answer
+use Rattle.reading.specs.Reading.{Reading, refused, accepted, reading}
+use Rattle.reading.specs.Calls.{itemsIn, fileAnswer}
+use Rattle.dual_problem.specs.Problem.{Problem, Feasible, problem, gradient}
+use Rattle.dual_problem.proofs.Laws.Problem.{problem-gram}
+use Rattle.dual_problem.proofs.Laws.Problem.Same.{gradient-cong, b-up-cong, b-low-cong}
+use Rattle.dual_problem.proofs.Laws.Problem.Zeros.{zeros-feasible}
+use Rattle.dual_problem.specs.Items.{at, problemOf}
+use Rattle.dual_problem.proofs.Laws.Items.Read.{Read, features-in-range, labels-present}
+use Rattle.smo.specs.Run.{run, training}
+use Rattle.smo.specs.Run.Meaning.{Sound}
+use Rattle.smo.proofs.Laws.Run.{zeros, zeros-length, training-length, training-sound}
+use Rattle.smo.proofs.Laws.Run.Append.{run-append}
+use Rattle.smo.specs.Answer.{trainedOf}
+use Rattle.training.specs.Train.{ResultQuality, TrainingQuality, endedWith, unchanged, trainFile, trainRead}
+
+module _ (P : Problem) (l : List ℕ) (long : P .count ≤ length l) where
+  -- the list with 0 at the first n places
+  abbrev cleared : List ℕ
+  cleared = written (P .count) (λ (i : ℕ). 0) l
+
+  pub cleared-at : (i : ℕ) → i < P .count → at (written (P .count) (λ (i : ℕ). 0) l) i ≡ 0
+  cleared-at i k = written-at (P .count) (λ i. 0) l 0 long i k
+
+  pub cleared-feasible : Feasible P (at (written (P .count) (λ (i : ℕ). 0) l))
+  cleared-feasible = zeros-feasible P (at cleared) cleared-at
+
+  -- a list of n in the first places of l
+  front : (a : List ℕ) → length a ≡ P .count → written (P .count) (at a) l ≡ a ++ drop (P .count) l
+  front a e = ap (λ n. written n (at a) l) (sym e) ∙ written-front a l 0 (omega arith) ∙ ap (λ n. a ++ drop n l) e
+
+  module _ (t budget : ℕ) where
+    pub cleared-run : run P t budget (written (P .count) (λ (i : ℕ). 0) l) ≡ record { ending = training P t budget .ending; steps = training P t budget .steps; multipliers = written (P .count) (at (training P t budget .multipliers)) l }
+    cleared-run =
+        ap (run P t budget) (written-cong (P .count) (λ i. 0) (at (zeros (P .count))) l (λ i k. sym (getD-replicate (P .count) i 0 0 k)) ∙ front (zeros (P .count)) (zeros-length (P .count)))
+        ∙ run-append P (drop (P .count) l) t budget (zeros (P .count)) (omega (arith, zeros-length (P .count)))
+        ∙ (λ d. record { ending = training P t budget .ending; steps = training P t budget .steps; multipliers = sym (front (training P t budget .multipliers) (training-length P t budget)) d })
+
+    left-at : (i : ℕ) → i < P .count → at (written (P .count) (at (training P t budget .multipliers)) l) i ≡ at (training P t budget .multipliers) i
+    left-at i k = written-at (P .count) (at (training P t budget .multipliers)) l 0 long i k
+
+    -- the answer and the list of G are those of the rule
+    pub cleared-answer : trainedOf P (run P t budget (written (P .count) (λ (i : ℕ). 0) l)) ≡ trainedOf P (training P t budget)
+    cleared-answer =
+        ap (trainedOf P) cleared-run
+        ∙ (λ d. record {
+          ending = training P t budget .ending;
+          steps = training P t budget .steps;
+          lower = b-low-cong P (at (written (P .count) (at (training P t budget .multipliers)) l)) (at (training P t budget .multipliers)) left-at d;
+          upper = b-up-cong P (at (written (P .count) (at (training P t budget .multipliers)) l)) (at (training P t budget .multipliers)) left-at d;
+        })
+
+    pub cleared-gradient : (n : ℕ) (g : List ℤ) → written n (gradient P (at (run P t budget (written (P .count) (λ (i : ℕ). 0) l) .multipliers))) g ≡ written n (gradient P (at (training P t budget .multipliers))) g
+    cleared-gradient n g =
+        ap (λ x. written n (gradient P (at (x .multipliers))) g) cleared-run
+        ∙ written-cong n (gradient P (at (written (P .count) (at (training P t budget .multipliers)) l))) (gradient P (at (training P t budget .multipliers))) g (λ i k. gradient-cong P (at (written (P .count) (at (training P t budget .multipliers)) l)) (at (training P t budget .multipliers)) left-at i)
+
+    -- the first n places of the list left are the multipliers of the rule
+    left-front : take (P .count) (written (P .count) (at (training P t budget .multipliers)) l) ≡ training P t budget .multipliers
+    left-front = ap (take (P .count)) (front (training P t budget .multipliers) (training-length P t budget))
+        ∙ ap (λ n. take n (training P t budget .multipliers ++ drop (P .count) l)) (sym (training-length P t budget)) ∙ take-append-seam (training P t budget .multipliers) (drop (P .count) l)
+
+-- ---- demand 3
+-- what training leaves, for a file that is accepted
+pub accepted-sound : (file : List ℕ) (p : Parameters) (order : List ℕ) (items : List Item) → reading file ≡ accepted p order items
+    → Sound (problem p items) (p .tolerance) (p .budget) (training (problem p items) (p .tolerance) (p .budget))
+accepted-sound file p order items e =
+    training-sound (problem p items) (problem-gram p items (features-in-range file p order items e)) (labels-present file p order items e) (p .tolerance) (p .budget)
+
+pub training-quality : (file a : List ℕ) (g : List ℤ) → TrainingQuality (reading file) (trainFile file a g .answer) (trainFile file a g .multipliers)
+training-quality file a g = by-reading (reading file) refl
+  where
+    by : (p : Parameters) (order : List ℕ) (items : List Item) → reading file ≡ accepted p order items
+        → (x : Bool) → leb (length items) (length a) && leb (length items) (length g) ≡ x
+        → let left = cond x (endedWith (problem p items) (training (problem p items) (p .tolerance) (p .budget)) a g) (unchanged (refusal 6) a g) in
+        TrainingQuality (accepted p order items) (left .answer) (left .multipliers)
+    by p order items r false e = tt
+    by p order items r true e =
+        let P = problem p items in
+        let s = accepted-sound file p order items r in
+        let long : length items ≤ length a = leb-true (length items) (length a) (&&-left (leb (length items) (length a)) (leb (length items) (length g)) e) in
+        subst (ResultQuality p P (trainedOf P (training P (p .tolerance) (p .budget)))) (sym (left-front P a long (p .tolerance) (p .budget)))
+        (record {
+          bounded = s .bounded;
+          in-budget = s .in-limit;
+          means = s .means;
+          stuck-exactly = s .stuck-exactly;
+        })
+
+    by-reading : (r : Reading) → reading file ≡ r → TrainingQuality r (trainRead r a g .answer) (trainRead r a g .multipliers)
+    by-reading (refused why) e = tt
+    by-reading (accepted p order items) e = by p order items e (leb (length items) (length a) && leb (length items) (length g)) refl
+
+-- ---- the call
+-- a refusal of the file is the answer, and nothing changes
+pub train-refused : (r : Reading) (a : List ℕ) (g : List ℤ) (why : Refusal) → fileAnswer r ≡ file-answer.Refused why → trainRead r a g ≡ unchanged why a g
+train-refused (refused met) a g why e = let q : met ≡ why = cc in λ k. unchanged (q k) a g
+train-refused (accepted p order items) a g why e = let z : _≡_ {A = ℕ} 0 1 = cc in absurd (omega arith)
+
+module _ {file : List ℕ} {p : Parameters} {n : ℕ} (r : Read file p n) (a : List ℕ) (g : List ℤ) where
+  -- a list is too short
+  pub train-short : leb n (length a) && leb n (length g) ≡ false → trainFile file a g ≡ unchanged (refusal 6) a g
+  train-short e =
+      ap (λ x. trainRead x a g) (r .is)
+      ∙ ap (λ x. cond x (endedWith (problem p (r .items)) (training (problem p (r .items)) (p .tolerance) (p .budget)) a g) (unchanged (refusal 6) a g)) (ap (λ m. leb m (length a) && leb m (length g)) (sym (r .counted)) ∙ e)
+
+  -- both are long enough
+  pub train-ended : leb n (length a) && leb n (length g) ≡ true → trainFile file a g ≡ endedWith (problemOf file p) (training (problemOf file p) (p .tolerance) (p .budget)) a g
+  train-ended e =
+      ap (λ x. trainRead x a g) (r .is)
+      ∙ ap (λ x. cond x (endedWith (problem p (r .items)) (training (problem p (r .items)) (p .tolerance) (p .budget)) a g) (unchanged (refusal 6) a g)) (ap (λ m. leb m (length a) && leb m (length g)) (sym (r .counted)) ∙ e)
+      ∙ sym (ap (λ x. endedWith (problem p (itemsIn x)) (training (problem p (itemsIn x)) (p .tolerance) (p .budget)) a g) (r .is))
