@@ -7,6 +7,7 @@ use Prim.Native.Nat.{ℕ, zero, suc, _≤_}
 use lib.Dec.{eqb}
 use lib.IntN.{ℤ, pos, negsuc, natAbs, _+ℤ_, _-ℤ_, _*ℤ_}
 use lib.ListN.{length, getD}
+use lib.Signed.{_<ℤ_}
 use Rattle.integers.specs.Places.{all}
 use Rattle.training_file.specs.declared.parameters.Parameters.{Parameters}
 use Rattle.training_file.specs.declared.item.Item.{Item}
@@ -48,6 +49,12 @@ classOf (pos (suc n)) = LookedUp  -- "Above 0 the answer is looked up"
 classOf (pos zero) = Undecided  -- "undecided, for a score of exactly 0"
 classOf (negsuc n) = PassedOver  -- "otherwise passed over"
 
+-- what a class means, in the order of whole numbers: a score has it exactly then (`class-exactly`)
+abbrev pub Means : Class → ℤ → Type 0
+Means LookedUp value = pos 0 <ℤ value
+Means PassedOver value = value <ℤ pos 0
+Means Undecided value = value ≡ pos 0
+
 -- whether each feature of a word is in the range that an item's are
 abbrev pub wordAllowed : List ℤ → Bool
 wordAllowed word = all (length word) (λ i. featureAllowed (getD word i (pos 0)))
@@ -70,6 +77,11 @@ classifyRead (accepted p order items) a word = classifyItems p items a word
 
 abbrev pub classifying : List ℕ → List ℕ → List ℤ → Classified
 classifying file a word = classifyRead (reading file) a word
+
+-- a refusal, or undecided: what multipliers that are all 0 give every word (`zeros-undecided`)
+abbrev pub UndecidedUnlessRefused : Classified → Type 0
+UndecidedUnlessRefused (Refused why) = Unit {0}
+UndecidedUnlessRefused (Is class) = class ≡ Undecided
 
 -- two lists with the same feature at each place, past their ends 0
 abbrev pub SameFeatures : List ℤ → List ℤ → Type 0

@@ -26,11 +26,14 @@ abbrev pub square : ℕ → List ℤ → List ℤ → ℤ
 square d xs zs = (linear d xs zs +ℤ pos 1) *ℤ (linear d xs zs +ℤ pos 1)
 
 -- "raised by 127": a feature of −127 to 127 becomes a number of 0 to 254
+abbrev pub raisedBy : ℕ
+raisedBy = 127
+
 abbrev pub raisedFeature : ℤ → ℤ
-raisedFeature feature = feature +ℤ pos featureMost
+raisedFeature feature = feature +ℤ pos raisedBy
 
 abbrev pub raisedMost : ℕ
-raisedMost = featureMost + featureMost
+raisedMost = featureMost + raisedBy
 
 -- "the smaller of the two values, each first raised by 127"
 abbrev pub smaller : ℤ → ℤ → ℤ

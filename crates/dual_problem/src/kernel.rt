@@ -19,11 +19,13 @@ fn product(x: i8, z: i8) -> i32
     (x as i32) * (z as i32)
 }
 
-// A feature raised by 127, so that the least becomes 0.
+// By so much the overlap kernel raises a feature, so that the least, −127, becomes 0.
+const RAISED_BY: i32 = 127;
+
 fn raised_feature(feature: i8) -> i32
     ensures { λ r. ⌜ r ≡ raisedFeature feature ⌝ }
 {
-    (feature as i32) + (Item::MAX_FEATURE as i32)
+    (feature as i32) + RAISED_BY
 }
 
 // The smaller of two features, each first raised by 127.

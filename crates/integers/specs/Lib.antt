@@ -1,5 +1,6 @@
--- What the definitions of every crate above are made of: sums over places, tests of places, lists written at their first places, the least
+-- What the definitions of every crate above are made of: numbers of 0 to n, sums over places, tests of places, lists written at their first places, the least
 -- and the greatest, Gram forms. The integers are those of lib.IntN, with the order of lib.Signed. Assumes nothing.
+pub mod Range
 pub mod Sum
 pub mod Places
 pub mod Written

@@ -1,34 +1,46 @@
--- Document 01's example of three records and P9, given what training answers, and how such lines read back. Assumes nothing.
+-- Document 01's example of three records and P9, from the bytes of their files by the definitions; how item lines read back; refusals and
+-- numbers. Assumes nothing.
 use mathlib.Core.Path.{_≡_, refl}
 use mathlib.Core.List.{List, [], _∷_, _++_}
 use Prim.Native.Nat.{ℕ}
-use lib.IntN.{pos, negsuc}
-use Rattle.training_file.specs.declared.item.Label.the-variants.{LookedUp, PassedOver}
+use lib.IntN.{negsuc}
+use Rattle.integers.specs.Sum.{sum}
+use Rattle.integers.specs.Extremum.{extreme, first}
+use Rattle.integers.specs.Places.{all}
 use Rattle.training_file.specs.Refusal.{refusal, refusalAt}
-use Rattle.dual_problem.specs.Items.{at}
-use Rattle.smo.specs.declared.ending.Ending.the-variants.{Converged}
-use Rattle.training.specs.declared.train.Training.the-variants.{Refused, Ended}
+use Rattle.training_file.specs.Parameters.{parametersAllowed}
+use Rattle.training_file.specs.Item.{featuresAllowed}
+use Rattle.training_file.specs.Record.{recordAllowed}
+use Rattle.chain.specs.Walk.{walk}
+use Rattle.chain.specs.Records.{every, labelled}
+use Rattle.reading.specs.Header.{headerAllowed, lengthAllowed}
+use Rattle.reading.specs.Reading.{reading, refused}
+use Rattle.reading.proofs.Examples.{sample}
+use Rattle.dual_problem.specs.Problem.{gradient, doubleSum, objective}
+use Rattle.working_pair.specs.Step.{amount, firstCandidate, workingPair}
+use Rattle.smo.specs.Run.{next, run}
+use Rattle.lookahead.specs.Settled.{three}
 use Rattle.text.specs.Decimal.{digits, decimal, signedDecimal, value}
 use Rattle.text.specs.Parts.{before, parts}
 use Rattle.totals.specs.Totals.{countAboveZero, sumOver}
 use Rattle.lines.specs.Lines.{itemLine, joined, resultLine, totalLine}
 use Rattle.lines.specs.Sheet.{countRead, sumRead}
-use Rattle.listing.specs.Listing.{listing}
+use Rattle.listing.specs.Listing.{listing, listingOf}
 
--- `converged 1 0 0`, `3 + 5`, `1 - 5` and, of document 02, request (l), `total 2 5 5`
-three-records : listing (Ended (record { ending = Converged; steps = 1; lower = pos 0; upper = pos 0 })) (3 ∷ 1 ∷ [])
-    (record { label = LookedUp; features = pos 1 ∷ [] } ∷ record { label = PassedOver; features = negsuc 0 ∷ [] } ∷ []) (at (5 ∷ 5 ∷ []))
+-- the example of three records: `converged 1 0 0`, `3 + 5`, `1 - 5` and, of document 02, request (l), `total 2 5 5`
+three-records : listingOf (reading sample)
     ≡ (99 ∷ 111 ∷ 110 ∷ 118 ∷ 101 ∷ 114 ∷ 103 ∷ 101 ∷ 100 ∷ 32 ∷ 49 ∷ 32 ∷ 48 ∷ 32 ∷ 48 ∷ 10 ∷ [])
     ++ ((51 ∷ 32 ∷ 43 ∷ 32 ∷ 53 ∷ 10 ∷ []) ++ ((49 ∷ 32 ∷ 45 ∷ 32 ∷ 53 ∷ 10 ∷ []) ++ (116 ∷ 111 ∷ 116 ∷ 97 ∷ 108 ∷ 32 ∷ 50 ∷ 32 ∷ 53 ∷ 32 ∷ 53 ∷ 10 ∷ [])))
-unfolding digits decimal signedDecimal countAboveZero sumOver resultLine itemLine totalLine joined listing
+unfolding
+    reading lengthAllowed headerAllowed parametersAllowed walk every recordAllowed featuresAllowed labelled sum extreme first all gradient doubleSum objective amount firstCandidate workingPair next run digits decimal signedDecimal countAboveZero sumOver resultLine itemLine totalLine joined listing listingOf
 three-records = refl
 
 -- P9, with a multiplier of 0, which isn't counted: `converged 1 1 1`, `1 + 2`, `2 - 0`, `3 - 2`, `total 2 2 2`
-p9-listing : listing (Ended (record { ending = Converged; steps = 1; lower = pos 1; upper = pos 1 })) (1 ∷ 2 ∷ 3 ∷ [])
-    (record { label = LookedUp; features = pos 10 ∷ [] } ∷ record { label = PassedOver; features = negsuc 9 ∷ [] } ∷ record { label = PassedOver; features = pos 10 ∷ [] } ∷ []) (at (2 ∷ 0 ∷ 2 ∷ []))
+p9-listing : listingOf (reading three)
     ≡ (99 ∷ 111 ∷ 110 ∷ 118 ∷ 101 ∷ 114 ∷ 103 ∷ 101 ∷ 100 ∷ 32 ∷ 49 ∷ 32 ∷ 49 ∷ 32 ∷ 49 ∷ 10 ∷ [])
     ++ ((49 ∷ 32 ∷ 43 ∷ 32 ∷ 50 ∷ 10 ∷ []) ++ ((50 ∷ 32 ∷ 45 ∷ 32 ∷ 48 ∷ 10 ∷ []) ++ ((51 ∷ 32 ∷ 45 ∷ 32 ∷ 50 ∷ 10 ∷ []) ++ (116 ∷ 111 ∷ 116 ∷ 97 ∷ 108 ∷ 32 ∷ 50 ∷ 32 ∷ 50 ∷ 32 ∷ 50 ∷ 10 ∷ []))))
-unfolding digits decimal signedDecimal countAboveZero sumOver resultLine itemLine totalLine joined listing
+unfolding
+    reading lengthAllowed headerAllowed parametersAllowed walk every recordAllowed featuresAllowed labelled sum extreme first all gradient doubleSum objective amount firstCandidate workingPair next run digits decimal signedDecimal countAboveZero sumOver resultLine itemLine totalLine joined listing listingOf
 p9-listing = refl
 
 -- its item lines read back: two multipliers above 0, the sums 2 and 2
@@ -40,13 +52,13 @@ unfolding value before parts countRead sumRead p9-lines
 p9-read = (refl, refl, refl)
 
 -- `refused 4`
-a-refusal : listing (Refused (refusal 4)) [] [] (at []) ≡ 114 ∷ 101 ∷ 102 ∷ 117 ∷ 115 ∷ 101 ∷ 100 ∷ 32 ∷ 52 ∷ 10 ∷ []
-unfolding digits decimal listing
+a-refusal : listingOf (refused (refusal 4)) ≡ 114 ∷ 101 ∷ 102 ∷ 117 ∷ 115 ∷ 101 ∷ 100 ∷ 32 ∷ 52 ∷ 10 ∷ []
+unfolding digits decimal listing listingOf
 a-refusal = refl
 
 -- `refused 16 7`
-a-broken-chain : listing (Refused (refusalAt 16 7)) [] [] (at []) ≡ 114 ∷ 101 ∷ 102 ∷ 117 ∷ 115 ∷ 101 ∷ 100 ∷ 32 ∷ 49 ∷ 54 ∷ 32 ∷ 55 ∷ 10 ∷ []
-unfolding digits decimal listing
+a-broken-chain : listingOf (refused (refusalAt 16 7)) ≡ 114 ∷ 101 ∷ 102 ∷ 117 ∷ 115 ∷ 101 ∷ 100 ∷ 32 ∷ 49 ∷ 54 ∷ 32 ∷ 55 ∷ 10 ∷ []
+unfolding digits decimal listing listingOf
 a-broken-chain = refl
 
 -- `-1907` and `1000000`

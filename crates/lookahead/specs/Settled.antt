@@ -26,8 +26,7 @@ use Rattle.dual_problem.specs.Items.{at}
 use Rattle.certifying.specs.declared.certify.Certified.{Certified}
 use Rattle.certifying.specs.declared.certify.Certified.the-variants as certified
 use Rattle.certifying.specs.Certify.{certifying}
-use Rattle.working_pair.specs.Step.{amount, firstCandidate, moves, workingPair}
-use Rattle.working_pair.proofs.Laws.Step.WorkingPair.{iLow, iUp}
+use Rattle.working_pair.specs.Step.{amount, firstCandidate, iLow, iUp, moves, workingPair}
 use Rattle.smo.specs.declared.ending.Ending.{Ending}
 use Rattle.smo.specs.declared.ending.Ending.the-variants.{Converged, Stuck, Spent}
 use Rattle.smo.specs.Run.{next, run}
@@ -58,7 +57,7 @@ plusMinus kernel S c t budget = header 2 kernel S c t budget ++ stored 2 1 1 ++ 
 abbrev bothOne : (kernel : ℕ) → List ℕ
 bothOne kernel = header 2 kernel 10 7 0 50 ++ stored 2 1 1 ++ stored 0 2 1
 
-abbrev three : List ℕ
+abbrev pub three : List ℕ
 three = header 3 0 1 2 0 50 ++ stored 2 1 10 ++ stored 3 2 246 ++ stored 0 2 10
 
 -- item + with feature 1, item − with feature 0: with multipliers 1 1 the thresholds are 1 and 0, and scores are odd

@@ -26,7 +26,7 @@ header =
     ++ replicate 8 0
     ++ (50 ∷ 0 ∷ 0 ∷ 0 ∷ 0 ∷ 0 ∷ 0 ∷ 0 ∷ [])
 
-abbrev sample : List ℕ
+abbrev pub sample : List ℕ
 sample =
     header
     ++ (0 ∷ 0 ∷ 2 ∷ 0 ∷ 255 ∷ replicate 15 0)

@@ -3,6 +3,7 @@ use mathlib.Core.Path.{_≡_}
 use mathlib.Core.List.{List, []}
 use Prim.Native.Nat.{ℕ, _<_}
 use lib.ListN.{length, getD}
+use Rattle.training_file.specs.declared.parameters.Parameters.{Parameters}
 use Rattle.training_file.specs.declared.item.Label.the-variants.{PassedOver}
 use Rattle.training_file.specs.declared.item.Item.{Item}
 use Rattle.training_file.specs.declared.refusal.Refusal.{Refusal}
@@ -35,6 +36,13 @@ orderIn (accepted parameters records items) = records
 abbrev pub itemsIn : Reading → List Item
 itemsIn (refused why) = []
 itemsIn (accepted parameters records items) = items
+
+-- the file is read as these parameters, and n items
+pub record Read (file : List ℕ) (p : Parameters) (n : ℕ) : Type 0 where
+  pub order : List ℕ
+  pub items : List Item
+  pub is : reading file ≡ accepted p order items
+  pub counted : n ≡ length items
 
 -- the item at a place of a list, counted from 0; past its end, one without features
 abbrev pub itemIn : List Item → ℕ → Item

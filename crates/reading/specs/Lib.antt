@@ -3,3 +3,4 @@
 pub mod Header
 pub mod Reading
 pub mod Calls
+pub mod Spare

@@ -1,34 +1,19 @@
 -- What the code of the run answers: what is done at the multipliers, and how the run ended. Assumes nothing.
-use mathlib.Core.Bool.{Bool, true, false}
 use mathlib.Core.List.{List}
-use Prim.Native.Nat.{ℕ, _*_}
-use lib.IntN.{ℤ, pos, _+ℤ_}
-use lib.Signed.{leZ}
+use Prim.Native.Nat.{ℕ}
+use lib.IntN.{ℤ}
 use Rattle.integers.specs.Written.{written}
 use Rattle.training_file.specs.declared.parameters.Parameters.{Parameters}
 use Rattle.dual_problem.specs.Problem.{Problem, bUp, bLow, gradient}
 use Rattle.dual_problem.specs.Items.{at, problemOf}
 use Rattle.thresholds.specs.declared.extremes.Extremes.{Extremes}
 use Rattle.thresholds.specs.Extremes.{bestValue}
-use Rattle.working_pair.specs.declared.pair.Pair.{Pair}
-use Rattle.working_pair.specs.declared.pair.Pair.the-variants as pair
-use Rattle.working_pair.specs.Step.{workingPair}
-use Rattle.working_pair.specs.Pair.{pairOf}
 use Rattle.smo.specs.declared.ending.Ending.{Ending}
-use Rattle.smo.specs.declared.ending.Ending.the-variants.{Converged, Stuck, Spent}
+use Rattle.smo.specs.declared.ending.Ending.the-variants.{Spent}
 use Rattle.smo.specs.declared.run.Decision.{Decision}
 use Rattle.smo.specs.declared.run.Decision.the-variants.{Ends, Moves}
 use Rattle.smo.specs.declared.run.Trained.{Trained}
 use Rattle.smo.specs.Run.{Outcome, run}
-
--- "1. if b_low ≤ b_up + 2 × t, the ending is converged; 2. if no pair moves, it is stuck"; else the working pair moves
-abbrev pub decided : Bool → Pair → Decision
-decided true found = Ends Converged
-decided false pair.Nothing = Ends Stuck
-decided false (pair.At i j) = Moves i j
-
-abbrev pub decision : Problem → ℕ → List ℕ → Decision
-decision P t a = decided (leZ (bLow P (at a)) (bUp P (at a) +ℤ pos (2 * t))) (pairOf (workingPair P a))
 
 -- the ending that a decision is; a pair that could move is left where the budget is spent
 abbrev pub decisionEnding : Decision → Ending

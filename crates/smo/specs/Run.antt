@@ -1,31 +1,44 @@
 -- Document 01, "The step": the run. It is defined once, with a limit on its steps; training is the run from zeros limited by the
 -- budget. Assumes nothing.
 pub mod Meaning
-use mathlib.Core.Bool.{true, false}
+use mathlib.Core.Bool.{Bool, true, false}
 use mathlib.Core.List.{List}
-use mathlib.Core.Option.{none, some}
 use Prim.Native.Nat.{ℕ, zero, suc, _*_}
 use lib.IntN.{pos, _+ℤ_}
 use lib.ListN.{replicate}
 use lib.Signed.{leZ}
 use Rattle.dual_problem.specs.Problem.{Problem, bUp, bLow}
 use Rattle.dual_problem.specs.Items.{at}
+use Rattle.working_pair.specs.declared.pair.Pair.{Pair}
+use Rattle.working_pair.specs.declared.pair.Pair.the-variants as pair
 use Rattle.working_pair.specs.Step.{moved, amount, workingPair}
+use Rattle.working_pair.specs.Pair.{pairOf}
 use Rattle.smo.specs.declared.ending.Ending.{Ending}
 use Rattle.smo.specs.declared.ending.Ending.the-variants.{Converged, Stuck, Spent}
+use Rattle.smo.specs.declared.run.Decision.{Decision}
+use Rattle.smo.specs.declared.run.Decision.the-variants.{Ends, Moves}
 
--- what is done at the multipliers a: training ends, or a move leads to the next multipliers
+-- "1. if b_low ≤ b_up + 2 × t, the ending is converged; 2. if no pair moves, it is stuck"; else the working pair moves
+abbrev pub decided : Bool → Pair → Decision
+decided true found = Ends Converged
+decided false pair.Nothing = Ends Stuck
+decided false (pair.At i j) = Moves i j
+
+-- what is done at the multipliers a
+abbrev pub decision : Problem → ℕ → List ℕ → Decision
+decision P t a = decided (leZ (bLow P (at a)) (bUp P (at a) +ℤ pos (2 * t))) (pairOf (workingPair P a))
+
+-- what comes of it: training ends, or a move leads to the next multipliers
 pub data Next : Type 0 where
   ends : Ending → Next
   goesOn : List ℕ → Next
 
--- "1. if b_low ≤ b_up + 2 × t, the ending is converged; 2. if no pair moves, it is stuck"
+abbrev pub nextBy : Problem → List ℕ → Decision → Next
+nextBy P a (Ends ending) = ends ending
+nextBy P a (Moves i j) = goesOn (moved P a i j (amount P a i j))
+
 unfoldable pub next : Problem → ℕ → List ℕ → Next
-next P t a =
-    elim (leZ (bLow P (at a)) (bUp P (at a) +ℤ pos (2 * t))) [
-      | true ↦ ends Converged
-      | false ↦ elim (workingPair P a) [ none ↦ ends Stuck | some ij ↦ goesOn (moved P a (ij .0) (ij .1) (amount P a (ij .0) (ij .1))) ]
-    ]
+next P t a = nextBy P a (decision P t a)
 
 -- how a run ended, the steps that it took, and the multipliers that it left
 pub record Outcome : Type 0 where
@@ -50,5 +63,8 @@ run P t (suc limit) a =
     ]
 
 -- "Start with all multipliers 0 and 0 steps."
+abbrev pub zeros : ℕ → List ℕ
+zeros n = replicate n 0
+
 abbrev pub training : Problem → ℕ → ℕ → Outcome
-training P t budget = run P t budget (replicate (P .count) 0)
+training P t budget = run P t budget (zeros (P .count))

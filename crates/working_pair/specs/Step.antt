@@ -45,7 +45,7 @@ movedPair a i x j z s = set (set a i (lowered x (at a i) s)) j (raised z (at a j
 abbrev pub moved : Problem → List ℕ → ℕ → ℕ → ℕ → List ℕ
 moved P a i j s = movedPair a i (P .label i) j (P .label j) s
 
--- "r is the largest s that keeps both in 0 to c": how far a × y can rise, and how far it can fall. Of both, each "the item's own ceiling"
+-- "r is the largest s that keeps both in 0 to c" (`room-largest`): how far a × y can rise, and how far it can fall. Of both, each "the item's own ceiling"
 -- (document 02, request (f))
 abbrev pub rise : Label → ℕ → ℕ → ℕ
 rise LookedUp a c = c - a
@@ -85,14 +85,17 @@ firstCandidate P a =
       | some i ↦ elim (first (P .count) (candidate P a i)) [ none ↦ none | some j ↦ some (i, j) ]
     ]
 
--- "The pair tried first is i with G = b_low and j with G = b_up, the lowest position among equals."
+-- "The pair tried first is i with G = b_low and j with G = b_up, the lowest position among equals.": i and j by the report's names
+abbrev pub iLow : Problem → List ℕ → Option ℕ
+iLow P a = argmax (P .count) (low P (at a)) (gradient P (at a))
+
+abbrev pub iUp : Problem → List ℕ → Option ℕ
+iUp P a = argmin (P .count) (up P (at a)) (gradient P (at a))
+
+-- the pair tried first where it moves, and otherwise the first that does
 unfoldable pub workingPair : Problem → List ℕ → Option (ℕ × ℕ)
 workingPair P a =
-    elim (argmax (P .count) (low P (at a)) (gradient P (at a))) [
+    elim (iLow P a) [
       | none ↦ none
-      | some i ↦
-          elim (argmin (P .count) (up P (at a)) (gradient P (at a))) [
-            | none ↦ none
-            | some j ↦ elim (moves P a i j) [ true ↦ some (i, j) | false ↦ firstCandidate P a ]
-          ]
+      | some i ↦ elim (iUp P a) [ none ↦ none | some j ↦ elim (moves P a i j) [ true ↦ some (i, j) | false ↦ firstCandidate P a ] ]
     ]

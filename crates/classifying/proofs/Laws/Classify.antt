@@ -9,7 +9,6 @@ use native.Mathlib.Omega.{arith}
 use lib.Dec.{eqb}
 use lib.IntN.{ℤ, pos, negsuc, natAbs, _+ℤ_, _-ℤ_, _*ℤ_}
 use lib.ListN.{length}
-use lib.Signed.{_<ℤ_}
 use Rattle.integers.proofs.Laws.Test.{chose-either}
 use Rattle.integers.proofs.Laws.Solver.{con, ⊝_, _⊕_, _⊗_, _⊖_, x₀, solve}
 use Rattle.integers.proofs.Laws.Linear.{integer}
@@ -20,14 +19,14 @@ use Rattle.training_file.specs.declared.refusal.Refusal.{Refusal}
 use Rattle.training_file.specs.Refusal.{refusal}
 use Rattle.reading.specs.declared.reader.FileAnswer.the-variants as file-answer
 use Rattle.reading.specs.Reading.{Reading, refused, accepted, reading}
-use Rattle.reading.specs.Calls.{itemIn, itemsIn, fileAnswer}
+use Rattle.reading.specs.Calls.{Read, itemIn, itemsIn, fileAnswer}
 use Rattle.dual_problem.specs.Kernel.{kernelBetween}
 use Rattle.dual_problem.proofs.Laws.Kernel.{kernelValue-comm, kernelValue-cong}
 use Rattle.dual_problem.specs.Problem.{LabelsPresent, problem}
 use Rattle.dual_problem.proofs.Laws.Problem.Zeros.{b-low-zeros, b-up-zeros, zeros-weighed}
 use Rattle.dual_problem.specs.Items.{at, weighedSum}
 use Rattle.dual_problem.specs.Size.{gradientMost, scoreMost, weighedMost}
-use Rattle.dual_problem.proofs.Laws.Items.Read.{Read, labels-present}
+use Rattle.dual_problem.proofs.Laws.Items.Read.{labels-present}
 use Rattle.certifying.specs.declared.certify.Thresholds.{Thresholds}
 use Rattle.certifying.specs.declared.multipliers.Judgement.{Judgement}
 use Rattle.certifying.specs.declared.multipliers.Judgement.the-variants as judged
@@ -37,7 +36,7 @@ use Rattle.classifying.specs.declared.classify.Class.{Class}
 use Rattle.classifying.specs.declared.classify.Class.the-variants.{LookedUp, PassedOver, Undecided}
 use Rattle.classifying.specs.declared.classify.Classified.{Classified}
 use Rattle.classifying.specs.declared.classify.Classified.the-variants.{Refused, Is}
-use Rattle.classifying.specs.Classify.{SameFeatures, classOf, classifyItems, classifyJudged, classifyRead, classifying, score, scoreWith, wordAllowed, wordKernel}
+use Rattle.classifying.specs.Classify.{Means, UndecidedUnlessRefused, SameFeatures, classOf, classifyItems, classifyJudged, classifyRead, classifying, score, scoreWith, wordAllowed, wordKernel}
 
 -- ---- the kernel
 -- a list with the word's features, compared with an item, gives K of the item and the word
@@ -61,12 +60,6 @@ module _ (p : Parameters) (items : List Item) (a : ℕ → ℕ) (thresholds : Th
       (twice, both, -ℤ-bound (pos 2 *ℤ whole) (thresholds .lower +ℤ thresholds .upper) twice both)
 
 -- ---- the class of a score
--- what a class means
-abbrev pub Means : Class → ℤ → Type 0
-Means LookedUp value = pos 0 <ℤ value
-Means PassedOver value = value <ℤ pos 0
-Means Undecided value = value ≡ pos 0
-
 class-means : (value : ℤ) → Means (classOf value) value
 class-means (pos (suc n)) = omega (arith, integer)
 class-means (pos zero) = refl
@@ -137,11 +130,6 @@ zeros-score p items a zeros present word =
     let P = problem p items in
     (λ i. pos 2 *ℤ zeros-weighed P a zeros (wordKernel p items word) i -ℤ (b-low-zeros P a zeros present i +ℤ b-up-zeros P a zeros present i))
     ∙ solve (pos (p .grid) ∷ []) (con (pos 2) ⊗ con (pos 0) ⊖ (x₀ ⊕ ⊝ x₀)) (con (pos 0)) refl
-
--- a refusal, or undecided
-abbrev pub UndecidedUnlessRefused : Classified → Type 0
-UndecidedUnlessRefused (Refused why) = Unit {0}
-UndecidedUnlessRefused (Is class) = class ≡ Undecided
 
 -- with such multipliers a word that isn't refused is undecided
 pub zeros-undecided : (file a : List ℕ) (word : List ℤ) → ((i : ℕ) → at a i ≡ 0) → UndecidedUnlessRefused (classifying file a word)

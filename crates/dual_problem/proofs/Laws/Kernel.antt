@@ -19,11 +19,10 @@ use Rattle.integers.proofs.Laws.Gram.{gram-one, gram-+, gram-*}
 use Rattle.training_file.specs.declared.parameters.Kernel.{Kernel}
 use Rattle.training_file.specs.declared.parameters.Kernel.the-variants.{Linear, Square, Overlap}
 use Rattle.training_file.specs.declared.item.Item.{Item}
-use Rattle.training_file.specs.Item.{featureMost}
 use Rattle.training_file.specs.Layout.{signedMost}
 use Rattle.reading.specs.Calls.{itemIn}
 use Rattle.dual_problem.specs.Size.{kernelMost}
-use Rattle.dual_problem.specs.Kernel.{FeaturesInRange, kernelValue, largestFeatureSum, largestKernel, linear, overFeatures, raisedFeature, smallerRaised, summand}
+use Rattle.dual_problem.specs.Kernel.{FeaturesInRange, kernelValue, largestFeatureSum, largestKernel, linear, overFeatures, raisedBy, raisedFeature, smallerRaised, summand}
 use Rattle.dual_problem.proofs.Laws.Kernel.Smaller.{overlap-gram, smaller-comm, smaller-either}
 
 -- ---- Gram forms
@@ -60,14 +59,14 @@ kernelValue-cong Square d xs ys zs e = ap (λ v. (v +ℤ pos 1) *ℤ (v +ℤ pos
 kernelValue-cong Overlap d xs ys zs e = overFeatures-cong smallerRaised d xs ys zs e
 
 -- ---- bounds, where no feature is larger than F, and a raised one no larger than a product
-module _ {F : ℕ} (raised-fits : F + featureMost ≤ F * F) where
+module _ {F : ℕ} (raised-fits : F + raisedBy ≤ F * F) where
   pub summand-bound : (k : Kernel) (x z : ℤ) → natAbs x ≤ F → natAbs z ≤ F → natAbs (summand k x z) ≤ F * F
   summand-bound Linear x z x-within z-within = *ℤ-bound x z x-within z-within
   summand-bound Square x z x-within z-within = *ℤ-bound x z x-within z-within
   summand-bound Overlap x z x-within z-within = smaller-either (λ v. natAbs v ≤ F * F) (raisedFeature x) (raisedFeature z) (λ h. raised-bound x x-within) (λ h. raised-bound z z-within)
     where
       raised-bound : (v : ℤ) → natAbs v ≤ F → natAbs (raisedFeature v) ≤ F * F
-      raised-bound v within = le-trans (+ℤ-bound v (pos featureMost) within (le-refl featureMost)) raised-fits
+      raised-bound v within = le-trans (+ℤ-bound v (pos raisedBy) within (le-refl raisedBy)) raised-fits
 
   module _ (d : ℕ) (xs zs : List ℤ) (x-within : (p : ℕ) → p < d → natAbs (getD xs p (pos 0)) ≤ F) (z-within : (p : ℕ) → p < d → natAbs (getD zs p (pos 0)) ≤ F) where
     feature-sum-bound : (k : Kernel) → natAbs (overFeatures (summand k) d xs zs) ≤ largestFeatureSum d F

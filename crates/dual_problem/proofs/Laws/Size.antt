@@ -2,7 +2,11 @@
 use mathlib.Core.Path.{_≡_, refl}
 use Prim.Native.Nat.{_*_, _/_, _<_, _^_}
 use lib.Dec.{lit<}
+use Rattle.dual_problem.specs.Kernel.{raisedMost}
 use Rattle.dual_problem.specs.Size.{ceilingsMost, gapMost, gradientMost, kernelMost, scoreMost}
+
+pub raised-figure : raisedMost ≡ 254
+raised-figure = refl
 
 pub kernel-figure : kernelMost ≡ 68720001025
 kernel-figure = refl

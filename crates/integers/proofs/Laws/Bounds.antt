@@ -5,11 +5,11 @@ use Prim.Native.Nat.{ℕ, zero, suc, _+_, _*_, _^_, _≤_, _<_}
 use native.Mathlib.Nat.{le-refl, mul-le-mul}
 use native.Mathlib.Omega.{arith}
 use lib.IntN.{ℤ, pos, negsuc, negℤ, natAbs, _+ℤ_, _-ℤ_, _*ℤ_}
-use lib.Signed.{mag, _≤ℤ_}
+use lib.Signed.{mag}
 use mir.Syntax.{Width}
 use mir.Val.{SFits, hbits, toZ, ofZ}
 use mir.Facts.{toZ-ofZ}
-use Rattle.integers.proofs.Laws.Linear.{integer, +ℤ-parts, negℤ-parts, natAbs-parts, one-part}
+use Rattle.integers.proofs.Laws.Linear.{+ℤ-parts, negℤ-parts, natAbs-parts, one-part}
 use Rattle.integers.specs.Sum.{sum}
 
 -- ---- absolute values
@@ -42,10 +42,6 @@ pub sum-bound : (n : ℕ) (f : ℕ → ℤ) {B : ℕ} → ((i : ℕ) → i < n �
 unfolding sum
 sum-bound zero f h = omega arith
 sum-bound (suc n) f {B} h = omega (arith, +ℤ-bound (sum n f) (f n) (sum-bound n f (λ i l. h i (omega arith))) (h n (le-refl (suc n))))
-
--- between two bounds, within both
-pub bound-between : (z : ℤ) {N : ℕ} → negℤ (pos N) ≤ℤ z → z ≤ℤ pos N → natAbs z ≤ N
-bound-between z {N} h k = omega (arith, integer, natAbs-parts z, negℤ-parts (pos N), one-part z)
 
 -- ---- a signed width w, for a number m that is known to be z
 mag-natAbs : (z : ℤ) → mag z ≤ natAbs z

@@ -1,5 +1,5 @@
--- The order of ℤ: an order, total, kept by sums and by products with what isn't negative; squares; the tests `leZ` and `ltZ` of
--- lib.Signed as facts; inequalities by a certificate. Assumes nothing.
+-- The order of ℤ: an order, total, kept by sums; sums, products and squares that aren't negative; the tests `leZ` and `ltZ` of lib.Signed as
+-- facts; inequalities by a certificate. Assumes nothing.
 use mathlib.Core.Path.{_≡_, refl, sym, _∙_, subst}
 use mathlib.Core.Logic.{_≢_, _⊎_, inl, inr, ⊎-elim}
 use mathlib.Core.Bool.{Bool, true, false, not}
@@ -7,10 +7,10 @@ use mathlib.Core.List.{List, [], _∷_}
 use Prim.Native.Nat.{ℕ, suc, _*_}
 use native.Mathlib.Omega.{arith}
 use lib.Dec.{T}
-use lib.IntN.{ℤ, pos, negsuc, negℤ, _+ℤ_, _-ℤ_, _*ℤ_}
+use lib.IntN.{ℤ, pos, negsuc, _+ℤ_, _-ℤ_, _*ℤ_}
 use lib.Signed.{leZ, ltZ, _≤ℤ_, _<ℤ_, leZ-yes, ltZ-yes, ltZ-no, clashℤ}
-use Rattle.integers.proofs.Laws.Solver.{Expr, con, _⊕_, _⊗_, _⊖_, x₀, x₁, x₂, value, normal, solve}
-use Rattle.integers.proofs.Laws.Linear.{integer, ≡-to-parts, +ℤ-parts, -ℤ-parts, negℤ-parts}
+use Rattle.integers.proofs.Laws.Solver.{Expr, con, _⊕_, _⊗_, _⊖_, x₀, x₁, value, normal, solve}
+use Rattle.integers.proofs.Laws.Linear.{integer, ≡-to-parts, +ℤ-parts, -ℤ-parts}
 
 -- ---- the tests, as facts and back
 pub ltZ-true : (a b : ℤ) → ltZ a b ≡ true → a <ℤ b
@@ -52,12 +52,6 @@ pub ≤ℤ-antisym : {a b : ℤ} → a ≤ℤ b → b ≤ℤ a → a ≡ b
 pub ≤ℤ-reflexive : {a b : ℤ} → a ≡ b → a ≤ℤ b
 ≤ℤ-reflexive h = omega (arith, integer)
 
-pub ≤ℤ-<ℤ-trans : {a b c : ℤ} → a ≤ℤ b → b <ℤ c → a <ℤ c
-≤ℤ-<ℤ-trans h k = omega (arith, integer)
-
-pub <ℤ-trans : {a b c : ℤ} → a <ℤ b → b <ℤ c → a <ℤ c
-<ℤ-trans h k = omega (arith, integer)
-
 pub <ℤ-to-≤ℤ : {a b : ℤ} → a <ℤ b → a ≤ℤ b
 <ℤ-to-≤ℤ h = omega (arith, integer)
 
@@ -77,10 +71,7 @@ pub ≤ℤ-total : (a b : ℤ) → (a ≤ℤ b) ⊎ (b ≤ℤ a)
 pub leZ-false : (a b : ℤ) → leZ a b ≡ false → b <ℤ a
 leZ-false a b e = ⊎-elim (λ h. absurd (subst T (sym (≤ℤ-leZ h) ∙ e) tt)) (λ h. h) (≤ℤ-or-<ℤ a b)
 
--- ---- negation and the sum
-pub negℤ-mono : {a b : ℤ} → a ≤ℤ b → negℤ b ≤ℤ negℤ a
-negℤ-mono {a} {b} h = omega (arith, integer, negℤ-parts a, negℤ-parts b)
-
+-- ---- the sum
 pub +ℤ-mono : {a b c d : ℤ} → a ≤ℤ b → c ≤ℤ d → (a +ℤ c) ≤ℤ (b +ℤ d)
 +ℤ-mono {a} {b} {c} {d} h k = omega (arith, integer, +ℤ-parts a c, +ℤ-parts b d)
 
@@ -108,10 +99,6 @@ pub ruleset positivity = (pos-nonneg, square-nonneg, +ℤ-nonneg, *ℤ-nonneg, -
 -- ---- a certificate: an expression d that isn't negative, with b = a + d by the solver, shows a ≤ b
 pub certificate : (ρ : List ℤ) (a b d : Expr) → normal b ≡ normal (a ⊕ d) → pos 0 ≤ℤ value ρ d → value ρ a ≤ℤ value ρ b
 certificate ρ a b d e h = omega (arith, integer, +ℤ-parts (value ρ a) (value ρ d), ≡-to-parts (solve ρ b (a ⊕ d) e))
-
--- ---- the product
-pub *ℤ-monoˡ-nonneg : {a b : ℤ} (c : ℤ) → pos 0 ≤ℤ c → a ≤ℤ b → (c *ℤ a) ≤ℤ (c *ℤ b)
-*ℤ-monoˡ-nonneg {a} {b} c h k = certificate (a ∷ b ∷ c ∷ []) (x₂ ⊗ x₀) (x₂ ⊗ x₁) (x₂ ⊗ (x₁ ⊖ x₀)) refl (search positivity)
 
 -- ---- an example: twice a product is at most the sum of the squares, the difference being a square
 product-below-squares : (a b : ℤ) → (pos 2 *ℤ (a *ℤ b)) ≤ℤ (a *ℤ a +ℤ b *ℤ b)

@@ -49,9 +49,6 @@ pub +ℤ-cancelʳ : (a b c : ℤ) → a +ℤ c ≡ b +ℤ c → a ≡ b
 pub negℤ-*ℤ : (a b : ℤ) → negℤ a *ℤ b ≡ negℤ (a *ℤ b)
 negℤ-*ℤ a b = +ℤ-cancelʳ (negℤ a *ℤ b) (negℤ (a *ℤ b)) (a *ℤ b) (sym (*ℤ-distribʳ-+ℤ (negℤ a) a b) ∙ ap (λ x. x *ℤ b) (+ℤ-comm (negℤ a) a ∙ +ℤ-invr a) ∙ zero-*ℤ b ∙ sym (+ℤ-invr (a *ℤ b)) ∙ +ℤ-comm (a *ℤ b) (negℤ (a *ℤ b)))
 
-pub *ℤ-negℤ : (a b : ℤ) → a *ℤ negℤ b ≡ negℤ (a *ℤ b)
-*ℤ-negℤ a b = *ℤ-comm a (negℤ b) ∙ negℤ-*ℤ b a ∙ ap negℤ (*ℤ-comm b a)
-
 pub minus-one-*ℤ : (a : ℤ) → negsuc 0 *ℤ a ≡ negℤ a
 minus-one-*ℤ a = negℤ-*ℤ (pos 1) a ∙ ap negℤ (one-*ℤ a)
 

@@ -43,9 +43,6 @@ x₅ = var 5
 abbrev pub x₆ : Expr
 x₆ = var 6
 
-abbrev pub x₇ : Expr
-x₇ = var 7
-
 abbrev pub _⊖_ : Expr → Expr → Expr
 a ⊖ b = a ⊕ ⊝ b
 

@@ -1,4 +1,4 @@
--- Laws of `sum`: congruence, linearity, order, sums of sums, one place changed, all but one place zero, ones. Assumes nothing.
+-- Laws of `sum`: congruence, linearity, order, sums of sums, one place changed, ones. Assumes nothing.
 pub mod Places
 pub mod Balanced
 use mathlib.Core.Path.{_≡_, refl, sym, _∙_, ap}
@@ -10,7 +10,7 @@ use native.Mathlib.Omega.{arith}
 use lib.IntN.{ℤ, pos, negsuc, negℤ, _+ℤ_, _-ℤ_, _*ℤ_, +ℤ-idr, +ℤ-assoc, *ℤ-comm, *ℤ-zero}
 use lib.Signed.{_≤ℤ_, ≤ℤ-refl}
 use Rattle.integers.proofs.Laws.Ring.{+ℤ-swap, *ℤ-distribˡ-+ℤ, minus-one-*ℤ}
-use Rattle.integers.proofs.Laws.Solver.{con, _⊕_, _⊖_, x₀, x₁, x₂, x₃, solve}
+use Rattle.integers.proofs.Laws.Solver.{_⊕_, _⊖_, x₀, x₁, x₂, x₃, solve}
 use Rattle.integers.proofs.Laws.Order.{+ℤ-mono, ≤ℤ-trans, ≤ℤ-reflexive}
 use Rattle.integers.specs.Sum.{sum}
 
@@ -98,12 +98,6 @@ sum-changed (suc n) k f g h e = at-last (ℕ-discrete k n) (λ l. sum-changed n 
     at-last (no p) ih =
         (λ m. ih (omega arith) m +ℤ e n (le-refl (suc n)) (omega arith) m)
         ∙ solve (sum n f ∷ f n ∷ g k ∷ f k ∷ []) (x₀ ⊕ (x₂ ⊖ x₃) ⊕ x₁) (x₀ ⊕ x₁ ⊕ (x₂ ⊖ x₃)) refl
-
--- f is zero but for place k
-pub sum-only : (n k : ℕ) (f : ℕ → ℤ) → k < n → ((i : ℕ) → i < n → ¬ (i ≡ k) → f i ≡ pos 0) → sum n f ≡ f k
-sum-only n k f h e =
-    sum-changed n k (λ i. pos 0) f h e ∙ ap (λ x. x +ℤ (f k -ℤ pos 0)) (sum-zero n (λ i. pos 0) (λ i l. refl))
-    ∙ solve (f k ∷ []) (con (pos 0) ⊕ (x₀ ⊖ con (pos 0))) x₀ refl
 
 -- ---- ones
 pub sum-ones : (n : ℕ) → sum n (λ (i : ℕ). pos 1) ≡ pos n

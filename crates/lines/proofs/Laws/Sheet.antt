@@ -16,8 +16,8 @@ use Rattle.smo.specs.declared.ending.Ending.the-variants.{Converged, Stuck, Spe
 use Rattle.smo.specs.declared.run.Trained.{Trained}
 use Rattle.text.specs.Decimal.{decimal, value}
 use Rattle.text.proofs.Laws.Decimal.Meaning.{decimal-value}
-use Rattle.text.specs.Parts.{parts}
-use Rattle.text.proofs.Laws.Parts.{free, decimal-free, free-append, parts-first, parts-one, signed-free}
+use Rattle.text.specs.Parts.{free, parts}
+use Rattle.text.proofs.Laws.Parts.{decimal-free, free-append, parts-first, parts-one, signed-free}
 use Rattle.totals.specs.declared.totals.Shown.{Shown}
 use Rattle.totals.specs.declared.totals.Totals.{Totals}
 use Rattle.totals.specs.Totals.{countAboveZero, oneAboveZero, share, sumOver, totals}

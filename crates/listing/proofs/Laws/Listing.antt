@@ -16,12 +16,12 @@ use Rattle.training_file.specs.Refusal.{refusal}
 use Rattle.training_file.specs.Parameters.{recordsMost}
 use Rattle.reading.specs.Reading.{Reading, refused, accepted, reading}
 use Rattle.reading.proofs.Laws.Reading.{accepted-is}
-use Rattle.reading.specs.Calls.{itemIn, itemsIn, orderIn, fileAnswer, tableAfter}
+use Rattle.reading.specs.Calls.{Read, itemIn, itemsIn, orderIn, fileAnswer, tableAfter}
 use Rattle.reading.proofs.Laws.Reading.Accepted.{accepted-ranges, items-counted, items-most, numbers-within}
 use Rattle.dual_problem.specs.Problem.{problem}
 use Rattle.dual_problem.proofs.Laws.Problem.Ceilings.{feasible-most}
 use Rattle.dual_problem.specs.Items.{Listed, at}
-use Rattle.dual_problem.proofs.Laws.Items.Read.{Read, read-listed}
+use Rattle.dual_problem.proofs.Laws.Items.Read.{read-listed}
 use Rattle.smo.specs.Run.{training}
 use Rattle.smo.specs.Answer.{trainedOf}
 use Rattle.training.specs.Train.{endedWith, unchanged, trainRead}

@@ -1,6 +1,6 @@
 -- Laws of the answers: a decision is what the rule does next, and a loop that counts its steps comes to the run's outcome. Assumes
 -- nothing.
-use mathlib.Core.Path.{_≡_, refl, sym, _∙_, ap}
+use mathlib.Core.Path.{_≡_, refl, _∙_, ap}
 use mathlib.Core.Bool.{Bool, true, false}
 use mathlib.Core.Option.{Option, none, some}
 use mathlib.Core.List.{List}
@@ -16,43 +16,25 @@ use Rattle.working_pair.proofs.Laws.Step.WorkingPair.{working-pair-sound}
 use Rattle.working_pair.specs.Pair.{pairOf}
 use Rattle.smo_step.specs.Update.{stepped}
 use Rattle.smo.specs.declared.ending.Ending.{Ending}
-use Rattle.smo.specs.declared.ending.Ending.the-variants.{Converged, Stuck, Spent}
+use Rattle.smo.specs.declared.ending.Ending.the-variants.{Spent}
 use Rattle.smo.specs.declared.run.Decision.the-variants.{Ends, Moves}
-use Rattle.smo.specs.Run.{Outcome, next, ends, goesOn, run}
+use Rattle.smo.specs.Run.{Outcome, decided, decision, next, nextBy, ends, goesOn, run}
 use Rattle.smo.specs.Run.Meaning.{moreSteps}
-use Rattle.smo.proofs.Laws.Run.{next-converged, next-stuck, next-moves, run-ends, run-spent, run-goes-on}
-use Rattle.smo.specs.Answer.{decided, decision}
+use Rattle.smo.proofs.Laws.Run.{run-ends, run-spent, run-goes-on}
 
 module _ (P : Problem) (t : ℕ) (a : List ℕ) where
-  test : Bool
-  test = leZ (bLow P (at a)) (bUp P (at a) +ℤ pos (2 * t))
-
-  decision-by : {x : Bool} {w : Option (ℕ × ℕ)} → test ≡ x → workingPair P a ≡ w → decision P t a ≡ decided x (pairOf w)
-  unfolding test
-  decision-by f g = λ i. decided (f i) (pairOf (g i))
-
   pub decision-ends : {e : Ending} → decision P t a ≡ Ends e → next P t a ≡ ends e
-  unfolding test
-  decision-ends {e} h = by test (workingPair P a) refl refl
-    where
-      by : (x : Bool) (w : Option (ℕ × ℕ)) → test ≡ x → workingPair P a ≡ w → next P t a ≡ ends e
-      by true w f g = let p = decision-by f g in let q : Converged ≡ e = cc in next-converged P t a f ∙ ap ends q
-      by false none f g = let p = decision-by f g in let q : Stuck ≡ e = cc in next-stuck P t a f g ∙ ap ends q
-      by false (some ij) f g = let p = decision-by f g in let q : _≡_ {A = ℕ} 0 1 = cc in absurd (omega arith)
+  unfolding next
+  decision-ends h = ap (nextBy P a) h
 
   pub decision-moves : {i j : ℕ} → decision P t a ≡ Moves i j → (next P t a ≡ goesOn (stepped P a i j)) × Candidate P a i j
-  unfolding test
-  decision-moves {i} {j} h = by test (workingPair P a) refl refl
+  unfolding next
+  decision-moves {i} {j} h = (ap (nextBy P a) h, by (leZ (bLow P (at a)) (bUp P (at a) +ℤ pos (2 * t))) (workingPair P a) refl h)
     where
-      by : (x : Bool) (w : Option (ℕ × ℕ)) → test ≡ x → workingPair P a ≡ w → (next P t a ≡ goesOn (stepped P a i j)) × Candidate P a i j
-      by true w f g = let p = decision-by f g in let q : _≡_ {A = ℕ} 0 1 = cc in absurd (omega arith)
-      by false none f g = let p = decision-by f g in let q : _≡_ {A = ℕ} 0 1 = cc in absurd (omega arith)
-      by false (some ij) f g =
-          let p : decided false (pairOf (some ij)) ≡ Moves i j = sym (decision-by f g) ∙ h in
-          let q : ij .0 ≡ i = cc in
-          let r : ij .1 ≡ j = cc in
-          let w : workingPair P a ≡ some (i, j) = g ∙ (λ k. some (q k, r k)) in
-          (next-moves P t a f w, working-pair-sound P a w)
+      by : (x : Bool) (w : Option (ℕ × ℕ)) → workingPair P a ≡ w → decided x (pairOf w) ≡ Moves i j → Candidate P a i j
+      by true w f q = let z : _≡_ {A = ℕ} 0 1 = cc in absurd (omega arith)
+      by false none f q = let z : _≡_ {A = ℕ} 0 1 = cc in absurd (omega arith)
+      by false (some ij) f q = let at-i : ij .0 ≡ i = cc in let at-j : ij .1 ≡ j = cc in working-pair-sound P a (f ∙ (λ k. some (at-i k, at-j k)))
 
 -- ---- a loop that has taken k of its steps and is at a, where o is the outcome that it is to come to
 module _ (P : Problem) (t limit k : ℕ) (a : List ℕ) {o : Outcome} (so-far : o ≡ moreSteps k (run P t (limit - k) a)) where

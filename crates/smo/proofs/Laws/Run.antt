@@ -10,7 +10,7 @@ use Prim.Native.Nat.{ℕ, zero, suc, _+_, _-_, _*_, _≤_, _<_}
 use native.Mathlib.Nat.{zero-add, suc-add, add-zero}
 use native.Mathlib.Omega.{arith}
 use lib.IntN.{ℤ, pos, negsuc, _+ℤ_, _-ℤ_}
-use lib.ListN.{length, replicate, length-replicate, getD-replicate}
+use lib.ListN.{length, length-replicate, getD-replicate}
 use lib.Signed.{leZ, _≤ℤ_, _<ℤ_, clashℤ}
 use Rattle.integers.proofs.Laws.Linear.{integer, -ℤ-parts, +ℤ-parts}
 use Rattle.integers.proofs.Laws.Order.{leZ-true, leZ-false}
@@ -27,7 +27,7 @@ use Rattle.working_pair.proofs.Laws.Step.WorkingPair.{working-pair-sound}
 use Rattle.working_pair.proofs.Laws.Move.Stuck.{candidate-lowers, stuck-exactly}
 use Rattle.smo.specs.declared.ending.Ending.{Ending}
 use Rattle.smo.specs.declared.ending.Ending.the-variants.{Converged, Stuck, Spent}
-use Rattle.smo.specs.Run.{Next, ends, goesOn, next, Outcome, oneStepMore, run, training}
+use Rattle.smo.specs.Run.{Next, ends, goesOn, next, Outcome, oneStepMore, run, training, zeros}
 use Rattle.smo.specs.Run.Meaning.{GapPasses, OutcomeGapPasses, OutcomeMeans, Sound, Steps, noStep, step, moreSteps}
 
 -- ---- no two endings are one
@@ -288,10 +288,7 @@ module _ (P : Problem) (t : ℕ) where
       pub run-sound : LabelsPresent P → Sound P t limit (run P t limit a)
       run-sound present = record { bounded = run-bounded present; in-limit = run-steps-limit limit a; means = run-means; stuck-exactly = stuck-ending-exactly }
 
--- ---- the start: "all multipliers 0"
-abbrev pub zeros : ℕ → List ℕ
-zeros n = replicate n 0
-
+-- ---- the start
 pub zeros-length : (n : ℕ) → length (zeros n) ≡ n
 zeros-length n = length-replicate {A = ℕ} n 0
 

@@ -25,7 +25,7 @@ use Rattle.dual_problem.proofs.Laws.Problem.Ceilings.{ceiling-range, feasible-m
 use Rattle.dual_problem.specs.Items.{MultipliersListed, at, problemOf}
 use Rattle.dual_problem.proofs.Laws.Items.{gradient-size}
 use Rattle.working_pair.specs.Step.{Candidate, amount, curvature, fall, rise, room, slope}
-use Rattle.working_pair.proofs.Laws.Step.{room-bound, moved-length, moved-other, moved-feasible, moved-gradient, curvature-nonneg, moves-slope, moves-apart, candidate-moves}
+use Rattle.working_pair.proofs.Laws.Step.{room-bound, moved-length, moved-feasible, moved-gradient, curvature-nonneg, moves-slope, moves-apart, candidate-moves}
 use Rattle.working_pair.proofs.Laws.Step.Amount.{amount-in-room}
 use Rattle.working_pair.specs.State.{State}
 use Rattle.working_pair.specs.Division.{divided, PairGiven}
@@ -149,7 +149,3 @@ module _ {file order : List ℕ} {n : ℕ} {p : Parameters} {a : List ℕ} {g : 
         filled = omega (arith, state .filled, length-written n (gradient P (at (stepped P a i j))) g);
         kept = written-at n (gradient P (at (stepped P a i j))) g (pos 0) (state .filled);
       })
-
-  -- ---- the places past the items keep their multipliers (those of G: `written-past`)
-  pub step-past : (k : ℕ) → n ≤ k → at (stepped P a i j) k ≡ at a k
-  step-past k h = moved-other P a i j (pair .i-within) (pair .j-within) apart long (amount P a i j) k (omega (arith, i-listed)) (omega (arith, j-listed))

@@ -1,6 +1,6 @@
 -- Laws of texts taken apart: a part ends at the first mark, and no digit is a mark below 48. Assumes nothing.
 pub mod Meaning
-use mathlib.Core.Bool.{Bool, true, false, cond, true≢false}
+use mathlib.Core.Bool.{true, false, cond, true≢false}
 use mathlib.Core.Path.{_≡_, refl, sym, _∙_, ap}
 use mathlib.Core.List.{List, [], _∷_, _++_}
 use Prim.Native.Nat.{ℕ, zero, suc, _+_, _/_, _%_, _<_}
@@ -10,12 +10,7 @@ use lib.Dec.{eqb, ltb}
 use lib.IntN.{ℤ, pos, negsuc}
 use Rattle.integers.proofs.Laws.Test.{chose-either, chose-second}
 use Rattle.text.specs.Decimal.{digits, decimal, signedDecimal}
-use Rattle.text.specs.Parts.{before, parts}
-
--- whether no byte of the text is the mark
-unfoldable pub free : ℕ → List ℕ → Bool
-free mark [] = true
-free mark (byte ∷ text) = cond (eqb byte mark) false (free mark text)
+use Rattle.text.specs.Parts.{before, free, parts}
 
 module _ (mark : ℕ) where
   -- ---- a byte at a time

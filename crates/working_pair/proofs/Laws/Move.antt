@@ -10,16 +10,11 @@ use Rattle.integers.specs.Sum.{sum}
 use Rattle.integers.proofs.Laws.Sum.Places.{sum-changed₂, sum-only₂}
 use Rattle.integers.specs.Gram.{Gram, quadratic}
 use Rattle.integers.proofs.Laws.Gram.{gram-sym, bilinear-rows}
-use Rattle.dual_problem.specs.Problem.{Problem, y, gradient, doubleSum, objective, finerObjective}
+use Rattle.dual_problem.specs.Problem.{Problem, y, gradient, objective}
 use Rattle.dual_problem.proofs.Laws.Problem.{change, expansion}
+use Rattle.dual_problem.proofs.Laws.Problem.Distance.{finer-one-objective}
 use Rattle.working_pair.specs.Step.{curvature}
 use Rattle.working_pair.specs.Move.{Move}
-
--- the finer grid at m' = 1 is the grid itself
-pub finer-one : (P : Problem) (v : ℕ → ℕ) → finerObjective P 1 v ≡ objective P v
-unfolding finerObjective objective
-finer-one P v =
-    solve (doubleSum P v ∷ pos (P .grid) ∷ sum (P .count) (λ i. pos (v i)) ∷ []) (x₀ ⊖ con (pos 2) ⊗ x₁ ⊗ con (pos 1) ⊗ x₂) (x₀ ⊖ con (pos 2) ⊗ x₁ ⊗ x₂) refl
 
 module _ {P : Problem} {a b : ℕ → ℕ} {i j s : ℕ} (m : Move P a b i j s) where
   -- a × y at a place
@@ -38,7 +33,7 @@ module _ {P : Problem} {a b : ℕ → ℕ} {i j s : ℕ} (m : Move P a b i j s) 
     K : ℕ → ℕ → ℤ
     K = P .kernel
 
-    -- "the code keeps G up to date by s × (K_jk − K_ik)"
+    -- by so much the code brings G up to the moved multipliers
     pub move-gradient : (k : ℕ) → k < P .count → gradient P b k ≡ gradient P a k +ℤ pos s *ℤ (P .kernel j k -ℤ P .kernel i k)
     unfolding gradient x K
     move-gradient k l =
@@ -93,7 +88,7 @@ module _ {P : Problem} {a b : ℕ → ℕ} {i j s : ℕ} (m : Move P a b i j s) 
     pub move-objective : objective P b ≡ objective P a +ℤ (pos (s * s) *ℤ curvature P i j -ℤ pos 2 *ℤ pos s *ℤ (gradient P a i -ℤ gradient P a j))
     unfolding u
     move-objective =
-        sym (finer-one P b) ∙ expansion P gram 1 a b
+        sym (finer-one-objective P b) ∙ expansion P gram 1 a b
         ∙ (λ d. pos (1 * 1) *ℤ objective P a +ℤ (quadratic-move d +ℤ pos 2 *ℤ pos 1 *ℤ weighed (gradient P a) d))
         ∙ solve (objective P a ∷ (pos (s * s) *ℤ curvature P i j) ∷ pos s ∷ gradient P a i ∷ gradient P a j ∷ [])
         (con (pos 1) ⊗ x₀ ⊕ (x₁ ⊕ con (pos 2) ⊗ con (pos 1) ⊗ (⊝ x₂ ⊗ x₃ ⊕ x₂ ⊗ x₄))) (x₀ ⊕ (x₁ ⊖ con (pos 2) ⊗ x₂ ⊗ (x₃ ⊖ x₄))) refl

@@ -9,14 +9,15 @@ use mathlib.Core.List.{List}
 use Prim.Native.Nat.{ℕ, _+_, _*_, _-_, _≤_, _<_, min}
 use native.Mathlib.Decide.{ℕ-discrete}
 use native.Mathlib.Omega.{arith}
-use borrow.Author.Tests.{ltb-true, lt-ltb}
-use lib.IntN.{ℤ, pos, negsuc, _+ℤ_, _-ℤ_, _*ℤ_}
+use borrow.Author.Tests.{ltb-true}
+use lib.IntN.{pos, negsuc, _+ℤ_, _-ℤ_, _*ℤ_}
 use lib.ListN.{length, set, length-set}
 use lib.Seq.{getD-set-same, getD-set-other, lt-length-set}
 use lib.Signed.{_≤ℤ_, _<ℤ_, ≤ℤ-refl}
 use Rattle.integers.proofs.Laws.Test.{&&-true, &&-left, &&-right, clash}
 use Rattle.integers.proofs.Laws.Linear.{integer, +ℤ-parts, -ℤ-parts, *ℤ-parts}
 use Rattle.integers.proofs.Laws.Order.{ltZ-true, ≤ℤ-ltZ}
+use Rattle.integers.specs.Range.{InRange}
 use Rattle.integers.specs.Gram.{Gram}
 use Rattle.integers.proofs.Laws.Gram.{distance-nonneg}
 use Rattle.training_file.specs.declared.item.Label.{Label}
@@ -29,10 +30,6 @@ use Rattle.working_pair.specs.Move.{Move}
 use Rattle.working_pair.proofs.Laws.Move.{move-balanced, move-gradient, move-objective}
 
 -- ---- at a place: a multiplier a of a ceiling c, moved by s
--- "in 0 to c"
-abbrev pub InRange : ℤ → ℕ → Type 0
-InRange z c = (pos 0 ≤ℤ z) × (z ≤ℤ pos c)
-
 module _ (a c s : ℕ) where
   -- lowering and falling, label by label
   pub lowered-looked-up : lowered LookedUp a s ≡ a - s
@@ -84,20 +81,13 @@ rise-bound PassedOver a c inside = inside
 pub fall-bound : (l : Label) (a c : ℕ) → a ≤ c → fall l a c ≤ c
 fall-bound l a c inside = rise-bound (opposite l) a c inside
 
--- what is in the low set can fall, what is in the up set can rise, and the other way round
+-- what is in the up set can rise, what is in the low set can fall
 pub up-rises : (l : Label) (a c : ℕ) → inUp l a c ≡ true → 1 ≤ rise l a c
 up-rises LookedUp a c h = omega (arith, ltb-true a c h)
 up-rises PassedOver a c h = ltb-true 0 a h
 
 pub low-falls : (l : Label) (a c : ℕ) → inLow l a c ≡ true → 1 ≤ fall l a c
 low-falls l a c h = up-rises (opposite l) a c h
-
-pub rises-up : (l : Label) (a c : ℕ) → 1 ≤ rise l a c → inUp l a c ≡ true
-rises-up LookedUp a c h = lt-ltb a c (omega arith)
-rises-up PassedOver a c h = lt-ltb 0 a h
-
-pub falls-low : (l : Label) (a c : ℕ) → 1 ≤ fall l a c → inLow l a c ≡ true
-falls-low l a c h = rises-up (opposite l) a c h
 
 -- ---- the moved multipliers
 pub moved-length : (P : Problem) (a : List ℕ) (i j s : ℕ) → length (moved P a i j s) ≡ length a

@@ -17,7 +17,7 @@ use Rattle.training_file.specs.Parameters.{Ranges, ceilingMost, recordsMost}
 use Rattle.reading.specs.declared.reader.FileAnswer.the-variants.{Accepted}
 use Rattle.reading.specs.Reading.{Reading, refused, accepted, reading}
 use Rattle.reading.proofs.Laws.Reading.{accepted-is}
-use Rattle.reading.specs.Calls.{itemIn, itemsIn, orderIn, fileAnswer, tableAfter}
+use Rattle.reading.specs.Calls.{Read, itemIn, itemsIn, orderIn, fileAnswer, tableAfter}
 use Rattle.reading.proofs.Laws.Calls.{table-serves}
 use Rattle.reading.proofs.Laws.Reading.Accepted.{label-at, accepted-ranges, items-counted, items-most, item-features-most}
 use Rattle.dual_problem.specs.Kernel.{FeaturesInRange}
@@ -26,13 +26,7 @@ use Rattle.dual_problem.proofs.Laws.Problem.Ceilings.{ceiling-range}
 use Rattle.dual_problem.specs.Size.{ceilingsMost}
 use Rattle.dual_problem.specs.Items.{Listed}
 
--- the file is read as these parameters, and n items
-pub record Read (file : List ℕ) (p : Parameters) (n : ℕ) : Type 0 where
-  pub order : List ℕ
-  pub items : List Item
-  pub is : reading file ≡ accepted p order items
-  pub counted : n ≡ length items
-
+-- an answer that accepts says what the file is read as
 pub answer-read : (file : List ℕ) (p : Parameters) (n : ℕ) → fileAnswer (reading file) ≡ Accepted p n → Read file p n
 answer-read file p n e = by (reading file) refl e
   where

@@ -10,13 +10,14 @@ use lib.Signed.{leZ, _≤ℤ_}
 use Rattle.integers.proofs.Laws.Linear.{integer, +ℤ-parts, natAbs-parts, one-part}
 use Rattle.integers.proofs.Laws.Order.{leZ-true, leZ-false, ≤ℤ-leZ, <ℤ-leZ, <ℤ-to-≤ℤ}
 use Rattle.integers.proofs.Laws.Bounds.{sum-bound}
+use Rattle.integers.specs.Range.{InRange}
 use Rattle.integers.specs.Sum.{sum}
 use Rattle.integers.proofs.Laws.Sum.{sum-append, sum-cong, sum-flatten, sum-nonneg, sum-ones, sum-zero}
 use Rattle.integers.specs.Gram.{Gram}
 use Rattle.training_file.specs.declared.item.Item.{Item}
 use Rattle.training_file.specs.Item.{featureMost}
 use Rattle.reading.specs.Calls.{itemIn}
-use Rattle.dual_problem.specs.Kernel.{FeaturesInRange, overlap, raisedFeature, raisedMost, smaller, smallerRaised}
+use Rattle.dual_problem.specs.Kernel.{FeaturesInRange, overlap, raisedBy, raisedFeature, raisedMost, smaller, smallerRaised}
 
 -- ---- the smaller of two numbers
 -- what holds of either holds of it
@@ -33,13 +34,9 @@ smaller-comm a b =
     (λ h. smaller-either (λ v. a ≡ v) b a (λ k. omega (arith, integer)) (λ k. refl))
     (λ h. smaller-either (λ v. b ≡ v) b a (λ k. refl) (λ k. omega (arith, integer)))
 
--- ---- numbers of 0 to N
-abbrev pub UpTo : ℕ → ℤ → Type 0
-UpTo N v = (pos 0 ≤ℤ v) × (v ≤ℤ pos N)
-
--- a raised feature is one of 0 to 254
-raised-range : (x : ℤ) → natAbs x ≤ featureMost → UpTo raisedMost (raisedFeature x)
-raised-range x h = (omega (arith, integer, +ℤ-parts x (pos featureMost), natAbs-parts x), omega (arith, integer, +ℤ-parts x (pos featureMost), natAbs-parts x))
+-- ---- a raised feature is one of 0 to 254
+raised-range : (x : ℤ) → natAbs x ≤ featureMost → InRange (raisedFeature x) raisedMost
+raised-range x h = (omega (arith, integer, +ℤ-parts x (pos raisedBy), natAbs-parts x), omega (arith, integer, +ℤ-parts x (pos raisedBy), natAbs-parts x))
 
 -- ---- thresholds: of two numbers of 0 to N the smaller is the number of thresholds of 1 to N that both reach
 -- 1 where a number reaches a threshold, else 0
@@ -56,7 +53,7 @@ both a b place = reaches a (threshold place) *ℤ reaches b (threshold place)
 
 module _ (N : ℕ) where
   -- the first number is the smaller: both reach the thresholds up to it, and it reaches no other
-  reached-by-both : (a b : ℤ) → UpTo N a → a ≤ℤ b → sum N (both a b) ≡ a
+  reached-by-both : (a b : ℤ) → InRange a N → a ≤ℤ b → sum N (both a b) ≡ a
   reached-by-both (negsuc a) b within h = absurd (within .0 .le)
   reached-by-both (pos a) b within h =
       ap (λ k. sum k (both (pos a) b)) (omega (arith, integer, within .1)) ∙ sum-append a (N - a) (both (pos a) b)
@@ -74,7 +71,7 @@ module _ (N : ℕ) where
           let first : leZ (pos (threshold (a + t))) (pos a) ≡ false = <ℤ-leZ {a = pos (threshold (a + t))} {b = pos a} (omega (arith, integer)) in
           rw first (*ℤ-comm (pos 0) (reaches b (threshold (a + t))) ∙ *ℤ-zero (reaches b (threshold (a + t))))
 
-  smaller-thresholds : (a b : ℤ) → UpTo N a → UpTo N b → sum N (both a b) ≡ smaller a b
+  smaller-thresholds : (a b : ℤ) → InRange a N → InRange b N → sum N (both a b) ≡ smaller a b
   smaller-thresholds a b a-within b-within =
       smaller-either (λ v. sum N (both a b) ≡ v) a b (λ h. reached-by-both a b a-within h)
       (λ h. sum-cong N (both a b) (both b a) (λ t l. *ℤ-comm (reaches a (threshold t)) (reaches b (threshold t))) ∙ reached-by-both b a b-within h)
@@ -95,7 +92,7 @@ overlap-gram d items range =
     value : ℕ → ℕ → ℤ
     value i p = raisedFeature (getD (itemIn items i .features) p (pos 0))
 
-    within : (i : ℕ) → i < length items → (p : ℕ) → UpTo raisedMost (value i p)
+    within : (i : ℕ) → i < length items → (p : ℕ) → InRange (value i p) raisedMost
     within i l p = raised-range (getD (itemIn items i .features) p (pos 0)) (range i l p)
 
 -- a value is 0 to 254 for each feature in use
@@ -103,15 +100,15 @@ module _ (d : ℕ) (xs zs : List ℤ) (x-within : (p : ℕ) → natAbs (getD xs 
   added : ℕ → ℤ
   added p = smallerRaised (getD xs p (pos 0)) (getD zs p (pos 0))
 
-  added-range : (p : ℕ) → UpTo raisedMost (added p)
+  added-range : (p : ℕ) → InRange (added p) raisedMost
   unfolding added
   added-range p =
-      smaller-either (UpTo raisedMost) (raisedFeature (getD xs p (pos 0))) (raisedFeature (getD zs p (pos 0)))
+      smaller-either (λ v. InRange v raisedMost) (raisedFeature (getD xs p (pos 0))) (raisedFeature (getD zs p (pos 0)))
       (λ h. raised-range (getD xs p (pos 0)) (x-within p)) (λ h. raised-range (getD zs p (pos 0)) (z-within p))
 
   added-size : (p : ℕ) → natAbs (added p) ≤ raisedMost
   added-size p = omega (arith, integer, natAbs-parts (added p), one-part (added p), added-range p .0, added-range p .1)
 
-  pub overlap-range : UpTo (d * raisedMost) (overlap d xs zs)
+  pub overlap-range : InRange (overlap d xs zs) (d * raisedMost)
   unfolding added
   overlap-range = (sum-nonneg d added (λ p l. added-range p .0), omega (arith, integer, natAbs-parts (overlap d xs zs), sum-bound d added (λ p l. added-size p)))

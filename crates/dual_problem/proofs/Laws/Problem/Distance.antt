@@ -57,6 +57,21 @@ module _ (m a c v : ℕ) (inside : a ≤ c) (finer : v ≤ m * c) where
   change-low : (l : Label) → 0 < negPart (sign l *ℤ rise) → inLow l a c ≡ true
   change-low l h = change-up (opposite l) (rw (opposite-sign l rise) (omega (arith, negℤ-parts (sign l *ℤ rise), one-part (sign l *ℤ rise), one-part (negℤ (sign l *ℤ rise)))))
 
+-- ---- the gap: "the lower threshold answered minus the upper one answered, or zero if that is negative"
+pub gap-difference : (lower upper : ℤ) → upper ≤ℤ lower → pos (gap lower upper) ≡ lower -ℤ upper
+gap-difference lower upper h = by-sign (lower -ℤ upper) refl
+  where
+    by-sign : (z : ℤ) → lower -ℤ upper ≡ z → pos (notBelowZero z) ≡ z
+    by-sign (pos n) e = refl
+    by-sign (negsuc n) e = absurd (omega (arith, integer, -ℤ-parts lower upper))
+
+pub gap-zero : (lower upper : ℤ) → lower ≤ℤ upper → gap lower upper ≡ 0
+gap-zero lower upper h = by-sign (lower -ℤ upper) refl
+  where
+    by-sign : (z : ℤ) → lower -ℤ upper ≡ z → notBelowZero z ≡ 0
+    by-sign (pos n) e = omega (arith, integer, -ℤ-parts lower upper)
+    by-sign (negsuc n) e = refl
+
 gap-bounds : (lower upper : ℤ) → (lower -ℤ upper) ≤ℤ pos (gap lower upper)
 gap-bounds lower upper = by-sign (lower -ℤ upper)
   where

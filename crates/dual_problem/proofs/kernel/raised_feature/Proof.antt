@@ -3,29 +3,24 @@ use mathlib.Core.Path.{_≡_, ap}
 use Prim.Native.Nat.{_^_, _<_}
 use native.Mathlib.Nat.{le-refl}
 use native.Mathlib.Omega.{arith}
-use borrow.Author.Needs.{needs}
 use lib.IntN.{pos, natAbs, _+ℤ_}
 use mir.Syntax.{w8, w32}
 use mir.Val.{toZ, ofZ, hbits}
 use Rattle.integers.proofs.Laws.Bounds.{+ℤ-bound, fits-width, reads-back}
-use Rattle.training_file.specs.Item.{featureMost}
-use Rattle.dual_problem.specs.Kernel.{raisedFeature}
+use Rattle.dual_problem.specs.Kernel.{raisedBy, raisedFeature}
 use Rattle.dual_problem.proofs.Laws.Kernel.{feature-fits, feature-reads, feature-size}
 use Rattle.dual_problem.proofs.kernel.raised_feature.Statement.{statement}
 use Rattle.dual_problem.proofs.kernel.raised_feature.Tie as tie
 
 module _ (c : tie.Start) where
-  raised-is : toZ w32 (ofZ w32 (toZ w8 (ofZ w8 (c .args .feature)))) +ℤ pos featureMost ≡ raisedFeature (c .args .feature)
-  raised-is = ap (λ x. x +ℤ pos featureMost) (feature-reads (c .fits .feature))
+  raised-is : toZ w32 (ofZ w32 (toZ w8 (ofZ w8 (c .args .feature)))) +ℤ pos raisedBy ≡ raisedFeature (c .args .feature)
+  raised-is = ap (λ x. x +ℤ pos raisedBy) (feature-reads (c .fits .feature))
 
   raised-small : natAbs (raisedFeature (c .args .feature)) < 2 ^ hbits w32
-  raised-small = omega (arith, +ℤ-bound (c .args .feature) (pos featureMost) (feature-size (c .fits .feature)) (le-refl featureMost))
+  raised-small = omega (arith, +ℤ-bound (c .args .feature) (pos raisedBy) (feature-size (c .fits .feature)) (le-refl raisedBy))
 
 cast-result : tie.Need-cast-result
 cast-result c = feature-fits (c .fits .feature)
-
-cast-result-2 : tie.Need-cast-result-2
-cast-result-2 c = search needs
 
 add-result : tie.Need-add-result
 add-result c = fits-width w32 (raised-is c) (raised-small c)
@@ -34,4 +29,4 @@ returns : tie.Need-returns
 returns c = reads-back w32 (raised-is c) (raised-small c)
 
 pub raised-feature-spec : {M : Type 1} → statement M
-raised-feature-spec = tie.close (tie.spec cast-result cast-result-2 add-result returns)
+raised-feature-spec = tie.close (tie.spec cast-result add-result returns)

@@ -10,15 +10,14 @@ use mir.Facts.{toZ-ofZ}
 use mir.Syntax.{w8, w32}
 use mir.Val.{SFits, toZ, ofZ}
 use Rattle.integers.proofs.Laws.Bounds.{+ℤ-bound, reads-back}
-use Rattle.training_file.specs.Item.{featureMost}
-use Rattle.dual_problem.specs.Kernel.{raisedFeature, smallerRaised}
+use Rattle.dual_problem.specs.Kernel.{raisedBy, raisedFeature, smallerRaised}
 use Rattle.dual_problem.proofs.Laws.Kernel.{feature-size}
 use Rattle.dual_problem.proofs.kernel.smaller_raised.Statement.{statement}
 use Rattle.dual_problem.proofs.kernel.smaller_raised.Tie as tie
 
 -- a result that is a raised feature reads back as it
 reads : {r x : ℤ} → SFits w8 x → r ≡ raisedFeature (toZ w8 (ofZ w8 x)) → toZ w32 (ofZ w32 r) ≡ raisedFeature x
-reads {x = x} fits is = reads-back w32 (is ∙ ap raisedFeature (toZ-ofZ fits)) (omega (arith, +ℤ-bound x (pos featureMost) (feature-size fits) (le-refl featureMost)))
+reads {x = x} fits is = reads-back w32 (is ∙ ap raisedFeature (toZ-ofZ fits)) (omega (arith, +ℤ-bound x (pos raisedBy) (feature-size fits) (le-refl raisedBy)))
 
 module _ (c : tie.After-raised-feature2) where
   first : toZ w32 (ofZ w32 (c .before .raised-feature .result)) ≡ raisedFeature (c .before .before .args .x)

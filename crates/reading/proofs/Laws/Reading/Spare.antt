@@ -9,34 +9,16 @@ use lib.ListN.{length, getD, drop, length-take, length-drop}
 use lib.Seq.{ext-getD, getD-drop, getD-take}
 use Rattle.training_file.specs.declared.parameters.Parameters.{Parameters}
 use Rattle.training_file.specs.declared.item.Item.{Item}
-use Rattle.training_file.specs.Layout.{byteAt, featureBytes, featureCount, firstRecord, le2, le4, le8, nextOf, recordStart, recordsStored}
+use Rattle.training_file.specs.Layout.{featureBytes, featureCount, firstRecord, le2, le4, le8, nextOf, recordStart, recordsStored}
 use Rattle.training_file.specs.Item.{itemOf, labelOfByte}
 use Rattle.training_file.specs.Record.{itemAt, recordAllowed}
-use Rattle.chain.specs.Walk.{Walk, Walked, broken, ends}
+use Rattle.chain.specs.Walk.{Walk, broken, ends}
 use Rattle.chain.specs.Chain.{chain, chainOf}
 use Rattle.chain.specs.Records.{every}
 use Rattle.chain.proofs.Laws.Chain.{chain-ends, chain-spare}
 use Rattle.reading.specs.Header.{headerAllowed, lengthAllowed, parametersOf}
 use Rattle.reading.specs.Reading.{Reading, accepted, bothLabels, readChain, reading, unless}
-
--- ---- what agrees
-
--- two files have the same bytes at `size` places from `start`
-abbrev pub Alike : (f g : List ℕ) (start size : ℕ) → Type 0
-Alike f g start size = (at : ℕ) → start ≤ at → at < start + size → byteAt f at ≡ byteAt g at
-
--- the record is on the chain of a file, ended or broken: a walk meets it
-pub record OnChain (file : List ℕ) (r : ℕ) : Type 0 where
-  pub met : List ℕ
-  pub walked : Walked (nextOf file) (recordsStored file) (firstRecord file) met
-  pub place : ℕ
-  pub held : place < length met
-  pub is : getD met place 0 ≡ r
-
-pub record SameChained (f g : List ℕ) : Type 0 where
-  pub lengths : length f ≡ length g
-  pub header : Alike f g 0 32
-  pub records : (r : ℕ) → OnChain f r → Alike f g (recordStart r) 20
+use Rattle.reading.specs.Spare.{Alike, OnChain, SameChained}
 
 -- ---- the fields
 

@@ -20,7 +20,7 @@ use Rattle.thresholds.proofs.Laws.Extremes.{low-value, up-value}
 use Rattle.working_pair.specs.declared.pair.Pair.{Pair}
 use Rattle.working_pair.specs.Step.{workingPair}
 use Rattle.working_pair.specs.Pair.{pairOf}
-use Rattle.smo.specs.Answer.{decided}
+use Rattle.smo.specs.Run.{decided}
 use Rattle.smo.proofs.run.decide.Statement.{statement}
 use Rattle.smo.proofs.run.decide.Tie as tie
 

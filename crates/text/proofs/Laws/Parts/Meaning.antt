@@ -2,24 +2,14 @@
 -- Assumes nothing.
 use mathlib.Core.Bool.{Bool, true, false, cond}
 use mathlib.Core.Path.{_≡_, refl, sym, _∙_, ap}
-use mathlib.Core.List.{List, [], _∷_, _++_}
+use mathlib.Core.List.{List, [], _∷_}
 use Prim.Native.Nat.{ℕ}
 use native.Mathlib.Omega.{arith}
 use borrow.Author.Tests.{eqb-true}
 use lib.Dec.{eqb}
 use lib.ListN.{length, drop}
-use Rattle.text.specs.Parts.{before, parts}
-use Rattle.text.proofs.Laws.Parts.{free, free-∷}
-
--- each text after a mark
-unfoldable pub marked : ℕ → List (List ℕ) → List ℕ
-marked mark [] = []
-marked mark (part ∷ more) = mark ∷ (part ++ marked mark more)
-
--- no text has the mark in it
-unfoldable pub AllFree : ℕ → List (List ℕ) → Type 0
-AllFree mark [] = Unit {0}
-AllFree mark (part ∷ more) = (free mark part ≡ true) × AllFree mark more
+use Rattle.text.specs.Parts.{AllFree, before, free, marked, parts}
+use Rattle.text.proofs.Laws.Parts.{free-∷}
 
 module _ (mark : ℕ) where
   -- a byte before the first part

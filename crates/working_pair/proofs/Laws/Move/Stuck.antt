@@ -3,15 +3,15 @@
 -- which is below 0 for some s exactly when it is for s = 1, since η isn't negative. Assumes nothing.
 use mathlib.Core.Path.{_≡_, refl, sym, _∙_, ap, subst}
 use mathlib.Core.Logic.{_↔_, _⊎_, inl, inr, ⊎-elim}
-use mathlib.Core.Bool.{Bool, true, false}
+use mathlib.Core.Bool.{true, false}
 use mathlib.Core.List.{List, [], _∷_}
 use mathlib.Core.Option.{Option, none, some}
-use Prim.Native.Nat.{ℕ, zero, suc, _≤_, _<_}
+use Prim.Native.Nat.{ℕ, zero, suc, _≤_}
 use native.Mathlib.Omega.{arith}
 use borrow.Author.Tests.{lt-ltb}
 use lib.IntN.{ℤ, pos, negsuc, _+ℤ_, _-ℤ_, _*ℤ_}
 use lib.ListN.{length}
-use lib.Signed.{_≤ℤ_, _<ℤ_, clashℤ}
+use lib.Signed.{_≤ℤ_, clashℤ}
 use Rattle.integers.proofs.Laws.Test.{clash, not-true-false}
 use Rattle.integers.proofs.Laws.Solver.{con, _⊕_, _⊗_, _⊖_, x₀, x₁, x₂, x₃}
 use Rattle.integers.proofs.Laws.Linear.{integer, +ℤ-parts, -ℤ-parts, *ℤ-parts}
@@ -20,9 +20,9 @@ use Rattle.integers.proofs.Laws.Sum.Places.{sum-changed₂}
 use Rattle.integers.specs.Gram.{Gram}
 use Rattle.training_file.specs.declared.item.Label.{Label}
 use Rattle.training_file.specs.declared.item.Label.the-variants.{LookedUp, PassedOver}
-use Rattle.dual_problem.specs.Problem.{Problem, Feasible, sign, y, inUp, inLow, up, low, objective}
+use Rattle.dual_problem.specs.Problem.{Problem, Feasible, sign, y, inUp, inLow, objective}
 use Rattle.dual_problem.specs.Items.{at}
-use Rattle.working_pair.specs.Step.{Candidate, amount, curvature, moved, moves, room, slope, workingPair}
+use Rattle.working_pair.specs.Step.{Candidate, amount, curvature, moved, moves, slope, workingPair}
 use Rattle.working_pair.proofs.Laws.Step.{moved-move, moved-feasible, curvature-nonneg, moves-apart, candidate-made, candidate-moves}
 use Rattle.working_pair.specs.Move.{Move, TwoMove, NoMoveLowers}
 use Rattle.working_pair.proofs.Laws.Move.{move-objective}
@@ -112,23 +112,6 @@ module _ (P : Problem) (gram : Gram (P .count) (P .kernel)) (a : List ℕ) where
       (x₁ ⊗ ((x₁ ⊖ con (pos 1)) ⊗ x₂ ⊕ (x₂ ⊖ con (pos 2) ⊗ x₃))) refl (search positivity))
 
   module _ (long : P .count ≤ length a) where
-    -- a pair of the low set and the up set moves exactly when some amount within its room lowers the objective
-    pub moves-iff : (i j : ℕ) → i < P .count → j < P .count → ¬ (i ≡ j) → low P (at a) i ≡ true → up P (at a) j ≡ true → (moves P a i j ≡ true) ↔ ((s : ℕ) × (1 ≤ s) × (s ≤ room P a i j) × (objective P (at (moved P a i j s)) <ℤ objective P (at a)))
-    moves-iff i j l k apart h g = (there, back)
-      where
-        there : moves P a i j ≡ true → (s : ℕ) × (1 ≤ s) × (s ≤ room P a i j) × (objective P (at (moved P a i j s)) <ℤ objective P (at a))
-        there m =
-            let c = candidate-made P a i j h g m in
-            let b = amount-lowers P gram a long i j l k c in
-            (amount P a i j, amount-positive P gram a long i j l k c, amount-in-room P gram a long i j l k c, omega (arith, integer, -ℤ-parts (objective P (at a)) (pos 1)))
-
-        back : (s : ℕ) × (1 ≤ s) × (s ≤ room P a i j) × (objective P (at (moved P a i j s)) <ℤ objective P (at a)) → moves P a i j ≡ true
-        back r = by-test (moves P a i j) refl
-          where
-            by-test : (t : Bool) → moves P a i j ≡ t → moves P a i j ≡ true
-            by-test true e = e
-            by-test false e = clashℤ (r .3) (stays-no-lower (moved-move P a i j l k apart long (r .0) (r .2)) (r .1) e)
-
     module _ (feasible : Feasible P (at a)) where
       -- a candidate gives a move of two multipliers that lowers the objective
       pub candidate-lowers : {i j : ℕ} → Candidate P a i j → ¬ NoMoveLowers P (at a)

@@ -1,4 +1,4 @@
--- Laws of the working pair: the pair taken is a candidate, and none is taken exactly where there is no candidate; the pair taken where
+-- Laws of the working pair: the pair taken is a candidate, and none is taken only where there is no candidate; the pair taken where
 -- the first one tried does not move is the first candidate by rising i, then rising j. Assumes nothing.
 use mathlib.Core.Path.{_≡_, refl, sym, ap, subst}
 use mathlib.Core.Bool.{Bool, true, false}
@@ -7,22 +7,15 @@ use mathlib.Core.Option.{Option, none, some}
 use Prim.Native.Nat.{ℕ, _<_}
 use lib.Signed.{ltZ}
 use Rattle.integers.proofs.Laws.Test.{clash, not-true-false}
-use Rattle.integers.specs.Extremum.{argmin, argmax, first, valueAt}
+use Rattle.integers.specs.Extremum.{first, valueAt}
 use Rattle.integers.proofs.Laws.Extremum.{Extreme, ltZ-strict, gtZ-strict, extreme-sound, extreme-none}
 use Rattle.integers.proofs.Laws.Extremum.First.{First, first-sound, first-none, first-complete, first-absent}
 use Rattle.dual_problem.specs.Problem.{Problem, gradient, up, low, bUp, bLow}
 use Rattle.dual_problem.specs.Items.{at}
-use Rattle.working_pair.specs.Step.{Candidate, candidate, firstCandidate, moves, somePlace, workingPair}
+use Rattle.working_pair.specs.Step.{Candidate, candidate, firstCandidate, iLow, iUp, moves, somePlace, workingPair}
 use Rattle.working_pair.proofs.Laws.Step.{candidate-made, candidate-low, candidate-up}
 
--- ---- the pair tried first, by the report's names: "i with G = b_low and j with G = b_up, the lowest position among equals"
-abbrev pub iLow : Problem → List ℕ → Option ℕ
-iLow P a = argmax (P .count) (low P (at a)) (gradient P (at a))
-
-abbrev pub iUp : Problem → List ℕ → Option ℕ
-iUp P a = argmin (P .count) (up P (at a)) (gradient P (at a))
-
--- their gradients are the thresholds
+-- ---- the pair tried first: its gradients are the thresholds
 pub b-low-attained : (P : Problem) (a : List ℕ) {i : ℕ} → iLow P a ≡ some i → bLow P (at a) ≡ gradient P (at a) i
 b-low-attained P a e = ap (valueAt (gradient P (at a))) e
 
@@ -185,14 +178,7 @@ module _ (P : Problem) (a : List ℕ) where
   unfolding Taken
   working-pair-sound e = subst Taken e taken
 
-  -- none is taken exactly where there is no candidate
+  -- none is taken where there is no candidate
   pub working-pair-none : workingPair P a ≡ none → (i j : ℕ) → i < P .count → j < P .count → candidate P a i j ≡ false
   unfolding Taken
   working-pair-none e = subst Taken e taken
-
-  pub working-pair-absent : ((i j : ℕ) → i < P .count → j < P .count → candidate P a i j ≡ false) → workingPair P a ≡ none
-  working-pair-absent h = by-pair (workingPair P a) refl
-    where
-      by-pair : (o : Option (ℕ × ℕ)) → workingPair P a ≡ o → workingPair P a ≡ none
-      by-pair none e = e
-      by-pair (some ij) e = let c = working-pair-sound e in clash (c .is-candidate) (h (ij .0) (ij .1) (c .i-within) (c .j-within))

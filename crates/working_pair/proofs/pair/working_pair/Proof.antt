@@ -17,10 +17,10 @@ use Rattle.dual_problem.specs.Items.{at, problemOf}
 use Rattle.thresholds.specs.declared.extremes.Best.the-variants as best
 use Rattle.thresholds.specs.declared.extremes.Extremes.{Extremes}
 use Rattle.thresholds.specs.Extremes.{bestOf, extremesOf}
-use Rattle.working_pair.specs.Step.{moves, workingPair}
+use Rattle.working_pair.specs.Step.{iLow, iUp, moves, workingPair}
 use Rattle.working_pair.specs.State.{State}
 use Rattle.working_pair.specs.Pair.{PairState, pairOf}
-use Rattle.working_pair.proofs.Laws.Step.WorkingPair.{iLow, iUp, working-pair-tried, working-pair-fallback}
+use Rattle.working_pair.proofs.Laws.Step.WorkingPair.{working-pair-tried, working-pair-fallback}
 use Rattle.working_pair.proofs.pair.working_pair.Statement.{statement}
 use Rattle.working_pair.proofs.pair.working_pair.Tie as tie
 

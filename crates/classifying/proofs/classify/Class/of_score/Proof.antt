@@ -6,8 +6,8 @@ use mir.ValLaws.{toZ-ofZ}
 use Rattle.integers.proofs.Laws.Order.{ltZ-true, ltZ-false, ≤ℤ-≢-<ℤ}
 use Rattle.classifying.specs.declared.classify.Class.{Class}
 use Rattle.classifying.specs.declared.classify.Class.the-variants.{LookedUp, PassedOver, Undecided}
-use Rattle.classifying.specs.Classify.{classOf}
-use Rattle.classifying.proofs.Laws.Classify.{Means, class-exactly}
+use Rattle.classifying.specs.Classify.{Means, classOf}
+use Rattle.classifying.proofs.Laws.Classify.{class-exactly}
 use Rattle.classifying.proofs.classify.Class.of_score.Statement.{statement}
 use Rattle.classifying.proofs.classify.Class.of_score.Tie as tie
 
