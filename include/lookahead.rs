@@ -5,8 +5,8 @@
 
 pub const LOOKAHEAD_MOST_ITEMS: usize = 256;
 
-#[repr(C)]
 #[derive(Clone, Copy, Debug, PartialEq, Eq)]
+#[repr(C)]
 pub struct LookaheadAnswer {
     pub number: u8,
     pub record: u16,
