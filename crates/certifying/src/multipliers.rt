@@ -1,5 +1,4 @@
 // Judging multipliers against the items of a read file (document 01, refusals 6 to 8).
-// What the public functions here require is met by the crates above, which have read the file.
 
 ghost use mathlib.Core.Path.{_≡_};
 ghost use Prim.Native.Nat.{_≤_};

@@ -67,7 +67,8 @@ bUp P a = least (P .count) (up P a) (gradient P a)
 abbrev pub bLow : Problem → (ℕ → ℕ) → ℤ
 bLow P a = greatest (P .count) (low P a) (gradient P a)
 
--- "With both labels present and a feasible, neither set is empty.": each label has an item, of a ceiling of 1 or more
+-- "both labels present": each label has an item, of a ceiling of 1 or more. With feasible multipliers "neither set is empty" then
+-- (`up-inhabited`, `low-inhabited`)
 abbrev pub LabelsPresent : Problem → Type 0
 LabelsPresent P = (label : Label) → (i : ℕ) × (i < P .count) × (P .label i ≡ label) × (1 ≤ P .ceiling i)
 

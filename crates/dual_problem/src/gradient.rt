@@ -1,5 +1,4 @@
 // The gradient G of the objective, from its definition (document 01, "Grid definitions").
-// What the public functions here require is met by the crates above, which have read the file.
 
 ghost use mathlib.Core.Path.{_≡_};
 ghost use Prim.Native.Nat.{_*_, _≤_, _<_};

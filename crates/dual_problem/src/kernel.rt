@@ -1,6 +1,5 @@
 // Kernel values of two items, over the features in use (document 01, "Grid definitions", and document 02, request (i)). Each says how
 // large it can be, so that whoever adds kernel values up knows that the sum fits.
-// What the public functions here require is met by the crates above, which have read the file.
 
 ghost use mathlib.Core.Path.{_≡_};
 ghost use Prim.Native.Nat.{_*_, _≤_};

@@ -6,7 +6,8 @@ pub mod classify;
 pub mod read;
 pub mod train;
 
-// The types of the answers, by the name of this library.
+// The types of the answers and of what they hold, and the label by which `dual_problem::label::ceiling` tells a ceiling, by the name of this
+// library.
 pub use certifying::certify::Certified;
 pub use certifying::certify::Thresholds;
 pub use classifying::classify::Class;
@@ -15,6 +16,7 @@ pub use reading::reader::FileAnswer;
 pub use smo::ending::Ending;
 pub use smo::run::Trained;
 pub use training::train::Training;
+pub use training_file::item::Label;
 pub use training_file::parameters::Kernel;
 pub use training_file::parameters::Parameters;
 pub use training_file::refusal::Refusal;

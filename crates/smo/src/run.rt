@@ -1,6 +1,5 @@
 // The run: moves one working pair after the other until it converges, is stuck, or has taken as many steps as it may (document 01, "The
 // step").
-// What the public functions here require is met by the crates above, which have read the file.
 
 ghost use mathlib.Core.Path.{_≡_};
 ghost use Rattle.training_file.specs.Parameters.{Ranges};

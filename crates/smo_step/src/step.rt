@@ -1,5 +1,4 @@
 // One move of a pair (document 01, "The step"): of the two multipliers, and with them of G of every item.
-// What the public functions here require is met by the crates above, which have read the file.
 
 ghost use mathlib.Core.Path.{_≡_};
 ghost use Prim.Native.Nat.{_+_, _*_, _≤_};

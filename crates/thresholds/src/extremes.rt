@@ -1,5 +1,4 @@
 // The up set, the low set, and where the two thresholds are attained (document 01, "Grid definitions").
-// What the public functions here require is met by the crates above, which have read the file.
 
 ghost use mathlib.Core.Path.{_≡_};
 ghost use Prim.Native.Nat.{_≤_, _<_};

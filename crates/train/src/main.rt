@@ -1,5 +1,5 @@
 // The training program: one training file on standard input, its listing on standard output (document 01, last part of "Settled examples").
-// It may use `listing` and what a file consists of, `training_file`; what it reads and writes goes through `io` and `libc`.
+// It may use `listing`, and of what a file is `reading` and `training_file`; what it reads and writes goes through `io` and `libc`.
 
 ghost use mathlib.Core.Path.{_≡_};
 ghost use Prim.Native.Nat.{_≤_};

@@ -1,5 +1,4 @@
 // The working pair: the two places that a step moves (document 01, "The step").
-// What the public functions here require is met by the crates above, which have read the file.
 
 ghost use mathlib.Core.Path.{_≡_};
 ghost use Prim.Native.Nat.{_<_};

@@ -1,4 +1,5 @@
--- `certifying::certify::certify` meets its contract. Assumes nothing.
+-- `certifying::certify::certify` meets its contract: where the file is refused, so is the call, and otherwise what `order` leaves is all
+-- that `certify_read` requires. The distance is carried along the answer. Assumes nothing.
 use mathlib.Core.Path.{refl, sym, _∙_, ap, subst}
 use borrow.Author.Needs.{needs}
 use Rattle.reading.specs.Reading.{reading}

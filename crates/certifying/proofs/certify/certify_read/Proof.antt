@@ -1,4 +1,5 @@
--- `certifying::certify::certify_read` meets its contract. Assumes nothing.
+-- `certifying::certify::certify_read` meets its contract: multipliers that were judged feasible are none above the highest ceiling, which is
+-- what finding the thresholds requires. Assumes nothing.
 use mathlib.Core.Path.{sym, _∙_, ap}
 use native.Mathlib.Omega.{arith}
 use borrow.Author.Needs.{needs}

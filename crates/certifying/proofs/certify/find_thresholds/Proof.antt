@@ -1,4 +1,5 @@
--- `certifying::certify::find_thresholds` meets its contract. Assumes nothing.
+-- `certifying::certify::find_thresholds` meets its contract: the list was filled with G, so that the values of its extremes are the
+-- thresholds. Assumes nothing.
 use mathlib.Core.Path.{_≡_, _∙_, ap}
 use Prim.Native.Nat.{ℕ, _<_}
 use native.Mathlib.Omega.{arith}

@@ -1,4 +1,5 @@
--- `classifying::classify::classify` meets its contract. Assumes nothing.
+-- `classifying::classify::classify` meets its contract: where the file is refused, so is the call, and otherwise what `order` leaves is all
+-- that `classify_read` requires. Assumes nothing.
 use mathlib.Core.Path.{refl, sym, _∙_, ap, subst}
 use borrow.Author.Needs.{needs}
 use Rattle.reading.specs.Reading.{reading}

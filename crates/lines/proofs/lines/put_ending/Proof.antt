@@ -1,4 +1,4 @@
--- `lines::lines::put_ending` meets its contract. Assumes nothing.
+-- `lines::lines::put_ending` meets its contract: the text put in each arm is that of its ending. Assumes nothing.
 use mathlib.Core.Path.{sym, ap}
 use borrow.Author.Needs.{needs}
 use Rattle.text.proofs.Laws.Put.{put-as, room-as}

@@ -1,4 +1,5 @@
--- `lines::lines::put_result` meets its contract. Assumes nothing.
+-- `lines::lines::put_result` meets its contract: the parts of the line are put one after the other, and each has the room that those before
+-- it leave. Assumes nothing.
 use mathlib.Core.Path.{_≡_, sym, ap}
 use borrow.Author.Needs.{needs}
 use mir.Syntax.{w64}

@@ -1,4 +1,5 @@
--- `listing::list::put_trained` meets its contract. Assumes nothing.
+-- `listing::list::put_trained` meets its contract: the file is read once more, and the items counted are those of the listing. Assumes
+-- nothing.
 use mathlib.Core.Path.{_≡_, refl, sym, _∙_, ap, subst₂}
 use native.Mathlib.Omega.{arith}
 use lib.ListN.{length}

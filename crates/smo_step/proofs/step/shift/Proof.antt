@@ -1,4 +1,5 @@
--- `smo_step::step::shift` meets its contract. Assumes nothing.
+-- `smo_step::step::shift` meets its contract: difference, product and sum read back as themselves, since each is bounded by its parts'
+-- sizes. Assumes nothing.
 use mathlib.Core.Path.{_≡_, refl, sym, subst}
 use Prim.Native.Nat.{_+_, _*_, _≤_}
 use native.Mathlib.Omega.{arith}

@@ -1,5 +1,5 @@
--- `smo_step::step::take_step` meets its contract: the laws of Update/Laws.antt, with what was fetched and computed put in the place of what it
--- is. Assumes nothing.
+-- `smo_step::step::take_step` meets its contract: the laws of a step (Laws/Update.antt), with what was fetched and computed put in the place
+-- of what it is. Assumes nothing.
 use mathlib.Core.Path.{_≡_, refl, sym, _∙_, subst, subst₃}
 use mathlib.Core.List.{List}
 use Prim.Native.Nat.{ℕ, min}

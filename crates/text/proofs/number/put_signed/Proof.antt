@@ -1,4 +1,5 @@
--- `text::number::put_signed` meets its contract. Assumes nothing.
+-- `text::number::put_signed` meets its contract. The size of a number below 0 is one more than −1 less the number, which fits where its own
+-- negation might not. Assumes nothing.
 use mathlib.Core.Bool.{true, false}
 use mathlib.Core.List.{[], _∷_, _++_}
 use mathlib.Core.Path.{_≡_, sym, _∙_, ap, subst}

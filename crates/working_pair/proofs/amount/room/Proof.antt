@@ -1,4 +1,5 @@
--- `working_pair::amount::room` meets its contract. Assumes nothing.
+-- `working_pair::amount::room` meets its contract: the first multiplier falls as it would rise under the opposite label, and the smaller of
+-- both ways is the room. Assumes nothing.
 use mathlib.Core.Path.{_≡_, _∙_, ap}
 use Prim.Native.Nat.{min}
 use borrow.Author.Needs.{needs}

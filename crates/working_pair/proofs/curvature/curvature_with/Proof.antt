@@ -1,4 +1,5 @@
--- `working_pair::curvature::curvature_with` meets its contract. Assumes nothing.
+-- `working_pair::curvature::curvature_with` meets its contract: each kernel value reads back as itself, and η, at most four of them in size,
+-- fits. Assumes nothing.
 use mathlib.Core.Path.{_≡_, sym, _∙_, subst}
 use Prim.Native.Nat.{_*_, _≤_}
 use native.Mathlib.Nat.{le-refl}

@@ -1,4 +1,5 @@
--- `thresholds::extremes::Best::beside` meets its contract. Assumes nothing.
+-- `thresholds::extremes::Best::beside` meets its contract: the flag says whether the new value comes first, in either order. Assumes
+-- nothing.
 use mathlib.Core.Path.{_≡_, sym, _∙_, ap}
 use mathlib.Core.Logic.{⊎-elim}
 use mathlib.Core.Bool.{Bool, cond}
