@@ -1,25 +1,17 @@
 -- The chain of a training file: what the walk from its first record comes to. Document 01, "The training file", and document 02, request
 -- (k). Assumes nothing.
-use mathlib.Core.Path.{_≡_, refl}
+use mathlib.Core.Path.{_≡_}
 use mathlib.Core.Logic.{_⊎_}
-use mathlib.Core.Option.{Option, none, some}
 use mathlib.Core.List.{List, []}
 use Prim.Native.Nat.{ℕ, suc, _≤_, _<_}
-use native.Mathlib.Omega.{arith}
 use lib.ListN.{length, getD}
 use Rattle.training_file.specs.Layout.{firstRecord, nextOf, recordsStored}
-use Rattle.chain.specs.Walk.{Walk, Walked, walk}
-use Rattle.chain.specs.Walk.Laws.{walk-stops}
+use Rattle.chain.specs.Walk.{Walk, Walked, comesTo, ledTo, recordsMet}
 
--- what a walk has come to that does not go on
-abbrev pub cameTo : (found : Option Walk) → ¬ (found ≡ none) → Walk
-cameTo (some w) stops = w
-cameTo none stops = absurd (stops refl)
-
--- "The n items are the chained records in chain order": what the walk from the first record comes to. A walk meets at most m records, so it
--- goes on for at most m turns and comes to this in the next (`walk-stops`).
+-- "The n items are the chained records in chain order": what the walk from the first record comes to. After m turns it has stopped, since
+-- no walk meets more than m records (`walk-stops`).
 abbrev pub chain : (next : ℕ → ℕ) (m first : ℕ) → Walk
-chain next m first = cameTo (walk next m first (suc m) []) (walk-stops next m first (suc m) (omega arith))
+chain next m first = let met = recordsMet next m first m [] in comesTo m met (ledTo next first met)
 
 -- the chain of the file, walked over the next numbers of its records
 abbrev pub chainOf : List ℕ → Walk

@@ -17,7 +17,7 @@ use Rattle.training_file.specs.Refusal.{refusal, refusalAt}
 use Rattle.training_file.specs.Parameters.{parametersAllowed}
 use Rattle.training_file.specs.Item.{featuresAllowed}
 use Rattle.training_file.specs.Record.{recordAllowed}
-use Rattle.chain.specs.Walk.{walk}
+use Rattle.chain.specs.Walk.{recordsMet}
 use Rattle.chain.specs.Records.{every, labelled}
 use Rattle.reading.specs.Header.{headerAllowed, lengthAllowed}
 use Rattle.reading.specs.Reading.{Reading, refused, accepted, reading}
@@ -168,7 +168,7 @@ settledExamples =
 
 pub settled : AllHold settledExamples
 unfolding
-    reading lengthAllowed headerAllowed parametersAllowed walk every recordAllowed featuresAllowed labelled sum extreme first all written gradient doubleSum objective amount firstCandidate workingPair next run scoreWith
+    reading lengthAllowed headerAllowed parametersAllowed recordsMet every recordAllowed featuresAllowed labelled sum extreme first all written gradient doubleSum objective amount firstCandidate workingPair next run scoreWith
 settled = (
   (refl, refl),
   (

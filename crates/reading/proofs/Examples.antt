@@ -12,7 +12,7 @@ use Rattle.training_file.specs.Parameters.{parametersAllowed}
 use Rattle.training_file.specs.Item.{featuresAllowed}
 use Rattle.training_file.specs.Refusal.{refusal, refusalAt}
 use Rattle.training_file.specs.Record.{recordAllowed}
-use Rattle.chain.specs.Walk.{walk}
+use Rattle.chain.specs.Walk.{recordsMet}
 use Rattle.chain.specs.Records.{every, labelled}
 use Rattle.reading.specs.Header.{headerAllowed, lengthAllowed}
 use Rattle.reading.specs.Reading.{Reading, accepted, reading, refused}
@@ -41,7 +41,7 @@ sampleRead second =
 
 -- as it stands, with a ceiling for label −1 of 100, which is c, and with the highest one
 pub sample-read : map reading (sample ∷ set sample 28 100 ∷ set sample 30 1 ∷ []) ≡ map sampleRead (0 ∷ 100 ∷ 65536 ∷ [])
-unfolding reading lengthAllowed headerAllowed parametersAllowed walk every recordAllowed featuresAllowed all labelled
+unfolding reading lengthAllowed headerAllowed parametersAllowed recordsMet every recordAllowed featuresAllowed all labelled
 sample-read = refl
 
 -- cut to 31 bytes; first record 4; a ceiling for label −1 of 65,537; record 3 its own next; record 1 leads back to 3; record 1 with the
@@ -54,5 +54,5 @@ pub faults-refused :
     ≡ map refused
     (refusal 1 ∷ refusal 2 ∷ refusal 2 ∷ refusalAt 16 3 ∷ refusalAt 16 1 ∷ refusalAt 3 1 ∷ refusalAt 3 3
     ∷ refusalAt 16 3 ∷ refusal 4 ∷ refusal 4 ∷ refusal 5 ∷ refusal 5 ∷ [])
-unfolding reading lengthAllowed headerAllowed parametersAllowed walk every recordAllowed featuresAllowed all labelled
+unfolding reading lengthAllowed headerAllowed parametersAllowed recordsMet every recordAllowed featuresAllowed all labelled
 faults-refused = refl

@@ -3,36 +3,32 @@
 use mathlib.Core.Path.{_≡_, refl, sym, ap, _∙_, subst}
 use mathlib.Core.Bool.{cond, true}
 use mathlib.Core.Logic.{_↔_, _⊎_, ⊎-elim, ⊎-map}
-use mathlib.Core.Option.{Option, none, some}
 use mathlib.Core.List.{List, [], _∷_}
 use Prim.Native.Nat.{ℕ, suc, _-_, _≤_, _<_}
 use native.Mathlib.Nat.{eq-or-lt-of-le}
 use native.Mathlib.Omega.{arith}
 use lib.Dec.{eqb}
 use lib.ListN.{length, getD, List·getD-eq-default}
-use Rattle.chain.specs.Walk.{Walk, Walked, atFault, broken, ended, ends, lastOf, ledTo, member, standing, standingAt, turn, walk}
-use Rattle.chain.specs.Chain.{IsChain, IsFault, cameTo, chain}
-use Rattle.chain.specs.Walk.Laws.{Stops, is-member, last-at, led-at, member-true, stands-again, stands-ended, stands-over, stood-at-fault, stood-ended, stops-at, stops-found, turn-broken, turn-ends, walk-found, walk-stops, walked-most}
-
-came-to : (found : Option Walk) (stops : ¬ (found ≡ none)) (w : Walk) → found ≡ some w → cameTo found stops ≡ w
-came-to (some x) stops w e = cc
-came-to none stops w e = let z : _≡_ {A = ℕ} 0 1 = cc in absurd (omega arith)
-
-was-found : (found : Option Walk) (stops : ¬ (found ≡ none)) → found ≡ some (cameTo found stops)
-was-found (some x) stops = refl
-was-found none stops = absurd (stops refl)
+use Rattle.chain.specs.Walk.{Walk, Walked, broken, comesTo, ends, lastOf, ledTo, member, recordsMet}
+use Rattle.chain.specs.Chain.{IsChain, IsFault, chain}
+use Rattle.chain.proofs.Laws.Walk.{Stops, is-member, last-at, led-at, member-true, met-all, stopped-broken, stopped-ends, stops-again, stops-ended, stops-over, walk-stops, walked-most}
 
 module _ (next : ℕ → ℕ) (m first : ℕ) where
   -- ---- the chain is what the walk comes to, where it stops
 
-  pub chain-stops : Stops next m first (chain next m first)
-  chain-stops = walk-found next m first (chain next m first) (was-found (walk next m first (suc m) []) (walk-stops next m first (suc m) (omega arith)))
+  pub stops-chain : (met : List ℕ) (w : Walk) → Walked next m first met → Stops m met (ledTo next first met) w → chain next m first ≡ w
+  stops-chain met w walked s =
+      ap (λ rs. comesTo m rs (ledTo next first rs)) (met-all next m first met (record { walked = walked; stays = s .stays })) ∙ s .there
 
-  pub stops-chain : (w : Walk) → Stops next m first w → chain next m first ≡ w
-  stops-chain w s = came-to (walk next m first (suc m) []) (walk-stops next m first (suc m) (omega arith)) w (stops-found next m first w s)
+  -- the records with which it stops
+  abbrev allMet : List ℕ
+  allMet = recordsMet next m first m []
 
-  chain-stops-at : (w : Walk) → chain next m first ≡ w → Stops next m first w
-  chain-stops-at w e = subst (Stops next m first) e chain-stops
+  all-walked : Walked next m first allMet
+  all-walked = walk-stops next m first .walked
+
+  chain-stops : (w : Walk) → chain next m first ≡ w → Stops m allMet (ledTo next first allMet) w
+  chain-stops w e = record { stays = walk-stops next m first .stays; there = e }
 
   -- ---- the records that it ends with
 
@@ -65,25 +61,24 @@ module _ (next : ℕ → ℕ) (m first : ℕ) where
           (λ inner. w .links k inner)
           (eq-or-lt-of-le h)
 
-  stops-ends : (rs : List ℕ) → Stops next m first (ends rs) → IsChain next m first rs
-  stops-ends rs s =
-      let stood = turn-ends (standing next m first (s .met)) (s .met) rs (s .there) in
-      subst (IsChain next m first) (stood .1) (led-chain (s .met) (s .walked) (stood-ended m (s .met) (ledTo next first (s .met)) (stood .0)))
+  ends-chain : (rs : List ℕ) → chain next m first ≡ ends rs → IsChain next m first rs
+  ends-chain rs e =
+      let stopped = stopped-ends m allMet (ledTo next first allMet) rs (chain-stops (ends rs) e) in
+      subst (IsChain next m first) (stopped .1) (led-chain allMet all-walked (stopped .0))
 
   pub chain-complete : (rs : List ℕ) → IsChain next m first rs → chain next m first ≡ ends rs
-  chain-complete rs c =
-      stops-chain (ends rs) (stops-at next m first rs ended (ends rs) (c .walked) (stands-ended m rs (ledTo next first rs) (chain-led rs c)) refl)
+  chain-complete rs c = stops-chain rs (ends rs) (c .walked) (stops-ended m rs (ledTo next first rs) (chain-led rs c))
 
   -- the walk ends with rs exactly when rs is the chain
   pub chain-ends : (rs : List ℕ) → (chain next m first ≡ ends rs) ↔ IsChain next m first rs
-  chain-ends rs = (λ e. stops-ends rs (chain-stops-at (ends rs) e), chain-complete rs)
+  chain-ends rs = (ends-chain rs, chain-complete rs)
 
   -- ---- the record at which it breaks
 
-  stops-broken : (number r : ℕ) → first ≤ m → Stops next m first (broken number r) → IsFault next m first number r
-  stops-broken number r few s =
-      let stood = turn-broken (standing next m first (s .met)) (s .met) number r (s .there) in
-      by (s .met) (s .walked) (stood .1) (stood-at-fault m (s .met) (ledTo next first (s .met)) number (stood .0))
+  broken-fault : (number r : ℕ) → first ≤ m → chain next m first ≡ broken number r → IsFault next m first number r
+  broken-fault number r few e =
+      let stopped = stopped-broken m allMet (ledTo next first allMet) number r (chain-stops (broken number r) e) in
+      by allMet all-walked (stopped .1) (stopped .0)
     where
       -- the record is the last one met, since the first of the chain isn't at fault
       by : (met : List ℕ) → Walked next m first met → lastOf met ≡ r
@@ -102,8 +97,8 @@ module _ (next : ℕ → ℕ) (m first : ℕ) where
           among : member (next (lastOf (x ∷ met))) (x ∷ met) ≡ true → (k : ℕ) × (k ≤ length met) × (getD (x ∷ met) k 0 ≡ next r)
           among e = let at = member-true (next (lastOf (x ∷ met))) (x ∷ met) e in (at .0, omega (arith, at .1), at .2 ∙ ap next last)
 
-  fault-stops : (number r : ℕ) → IsFault next m first number r → Stops next m first (broken number r)
-  fault-stops number r f = ⊎-elim for-3 for-16 (f .fault)
+  fault-broken : (number r : ℕ) → IsFault next m first number r → chain next m first ≡ broken number r
+  fault-broken number r f = ⊎-elim for-3 for-16 (f .fault)
     where
       last-is : lastOf (f .met) ≡ r
       last-is = last-at (f .met) (f .place) (f .last) ∙ f .is
@@ -111,26 +106,25 @@ module _ (next : ℕ → ℕ) (m first : ℕ) where
       led-is : ledTo next first (f .met) ≡ next r
       led-is = led-at next first (f .met) (f .place) (f .last) ∙ ap next (f .is)
 
-      for-3 : (number ≡ 3) × (m < next r) → Stops next m first (broken number r)
+      for-3 : (number ≡ 3) × (m < next r) → chain next m first ≡ broken number r
       for-3 p =
-          stops-at next m first (f .met) (atFault 3) (broken number r) (f .walked)
-          (stands-over m (f .met) (ledTo next first (f .met)) (rw led-is (p .1)))
-          (λ i. some (broken (sym (p .0) i) (last-is i)))
+          stops-chain (f .met) (broken 3 (lastOf (f .met))) (f .walked) (stops-over m (f .met) (ledTo next first (f .met)) (rw led-is (p .1)))
+          ∙ λ i. broken (sym (p .0) i) (last-is i)
 
-      for-16 : (number ≡ 16) × ((k : ℕ) × (k ≤ f .place) × (getD (f .met) k 0 ≡ next r)) → Stops next m first (broken number r)
+      for-16 : (number ≡ 16) × ((k : ℕ) × (k ≤ f .place) × (getD (f .met) k 0 ≡ next r)) → chain next m first ≡ broken number r
       for-16 p =
           let k = p .1 .0 in
           let held : k < length (f .met) = omega (arith, p .1 .1, f .last) in
           let to = p .1 .2 ∙ sym led-is in
-          let in-range = f .walked .within k held in
-          stops-at next m first (f .met) (atFault 16) (broken number r) (f .walked)
-          (stands-again m (f .met) (ledTo next first (f .met)) (omega (arith, to, in-range .0)) (omega (arith, to, in-range .1))
+          let range = f .walked .within k held in
+          stops-chain (f .met) (broken 16 (lastOf (f .met))) (f .walked)
+          (stops-again m (f .met) (ledTo next first (f .met)) (omega (arith, to, range .0)) (omega (arith, to, range .1))
           (is-member (ledTo next first (f .met)) (f .met) k held to))
-          (λ i. some (broken (sym (p .0) i) (last-is i)))
+          ∙ λ i. broken (sym (p .0) i) (last-is i)
 
   -- the chain breaks at r with a number exactly when the next field of r is so at fault, the first on the walk
   pub chain-broken : (number r : ℕ) → first ≤ m → (chain next m first ≡ broken number r) ↔ IsFault next m first number r
-  chain-broken number r few = (λ e. stops-broken number r few (chain-stops-at (broken number r) e), λ f. stops-chain (broken number r) (fault-stops number r f))
+  chain-broken number r few = (broken-fault number r few, fault-broken number r)
 
   -- it breaks exactly when no records are the chain
   pub chain-none : ((number : ℕ) × ((r : ℕ) × (chain next m first ≡ broken number r))) ↔ ((rs : List ℕ) → ¬ IsChain next m first rs)
@@ -143,7 +137,7 @@ module _ (next : ℕ → ℕ) (m first : ℕ) where
       breaks none-is = by (chain next m first) refl
         where
           by : (w : Walk) → chain next m first ≡ w → (number : ℕ) × ((r : ℕ) × (chain next m first ≡ broken number r))
-          by (ends rs) e = absurd (none-is rs (chain-ends rs .0 e))
+          by (ends rs) e = absurd (none-is rs (ends-chain rs e))
           by (broken number r) e = (number, (r, e))
 
 -- ---- files that agree
@@ -151,18 +145,21 @@ module _ (next : ℕ → ℕ) (m first : ℕ) where
 -- "numbers in spare records do not count": the chain is the same where the records that a walk meets have the same next
 pub chain-spare : (f g : ℕ → ℕ) (m first : ℕ)
     → ((met : List ℕ) → Walked f m first met → (k : ℕ) → k < length met → f (getD met k 0) ≡ g (getD met k 0)) → chain f m first ≡ chain g m first
-chain-spare f g m first same = sym (stops-chain g m first (chain f m first) (record { met = s .met; walked = walked′; there = there′ }))
+chain-spare f g m first same = sym (stops-chain g m first rs (chain f m first) walked′ stops′)
   where
-    s : Stops f m first (chain f m first)
-    s = chain-stops f m first
+    rs : List ℕ
+    rs = allMet f m first
 
-    walked′ : Walked g m first (s .met)
+    walked : Walked f m first rs
+    walked = all-walked f m first
+
+    walked′ : Walked g m first rs
     walked′ =
         record {
-          starts = s .walked .starts;
-          within = s .walked .within;
-          links = λ k h. sym (same (s .met) (s .walked) k (omega arith)) ∙ s .walked .links k h;
-          distinct = s .walked .distinct;
+          starts = walked .starts;
+          within = walked .within;
+          links = λ k h. sym (same rs walked k (omega arith)) ∙ walked .links k h;
+          distinct = walked .distinct;
         }
 
     led : (met : List ℕ) → ((k : ℕ) → k < length met → f (getD met k 0) ≡ g (getD met k 0)) → ledTo g first met ≡ ledTo f first met
@@ -170,32 +167,32 @@ chain-spare f g m first same = sym (stops-chain g m first (chain f m first) (rec
     led (x ∷ met) e =
         led-at g first (x ∷ met) (length met) refl ∙ sym (e (length met) (omega arith)) ∙ sym (led-at f first (x ∷ met) (length met) refl)
 
-    there′ : turn (standingAt m (s .met) (ledTo g first (s .met))) (s .met) (λ more. none) ≡ some (chain f m first)
-    there′ = ap (λ n. turn (standingAt m (s .met) n) (s .met) (λ more. none)) (led (s .met) (same (s .met) (s .walked))) ∙ s .there
+    stops′ : Stops m rs (ledTo g first rs) (chain f m first)
+    stops′ = rw (led rs (same rs walked)) (chain-stops f m first (chain f m first) refl)
 
 -- ---- examples
 
 -- document 01's three records: first 3, whose next is 1; record 1 ends the chain; record 2 is spare, and its next number does not count
 three-records : chain (λ r. getD (0 ∷ 0 ∷ 9 ∷ 1 ∷ []) r 0) 3 3 ≡ ends (3 ∷ 1 ∷ [])
-unfolding walk
+unfolding recordsMet
 three-records = refl
 
 -- a record that is its own next
 own-next : chain (λ r. r) 256 7 ≡ broken 16 7
-unfolding walk
+unfolding recordsMet
 own-next = refl
 
 -- 2, 4, 1, 3 and back to 4: record 3 is at fault
 tail-into-a-cycle : chain (λ r. getD (0 ∷ 3 ∷ 4 ∷ 4 ∷ 1 ∷ []) r 0) 4 2 ≡ broken 16 3
-unfolding walk
+unfolding recordsMet
 tail-into-a-cycle = refl
 
 -- 1, 2 and, by a next number of exactly m, record 3, whose own next number is m + 1
 next-over : chain (λ r. getD (0 ∷ 2 ∷ 3 ∷ 4 ∷ []) r 0) 3 1 ≡ broken 3 3
-unfolding walk
+unfolding recordsMet
 next-over = refl
 
 -- 256 records, each followed by the one before it, where the last is followed by the first
 all-records : chain (λ r. cond (eqb r 1) 256 (r - 1)) 256 256 ≡ broken 16 1
-unfolding walk
+unfolding recordsMet
 all-records = refl

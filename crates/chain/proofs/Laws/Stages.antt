@@ -1,7 +1,6 @@
 -- Laws of the stages that walk the chain: what the walks along the chain keep, and what each finds. Assumes nothing.
 use mathlib.Core.Path.{_≡_, refl, sym, ap, subst, _∙_}
 use mathlib.Core.Bool.{Bool, true, false, cond}
-use mathlib.Core.Option.{none, some}
 use Prim.Native.Nat.{ℕ, suc, min, _+_, _≤_, _<_}
 use mathlib.Core.List.{List, [], _∷_, _++_}
 use native.Mathlib.Nat.{add-zero, add-assoc}
@@ -22,11 +21,11 @@ use Rattle.training_file.specs.Item.{labelOfByte, same}
 use Rattle.training_file.specs.Record.{Stored, recordAllowed}
 use Rattle.chain.specs.declared.count.Count.the-variants.{Refused, Counted}
 use Rattle.chain.specs.declared.step.Step.the-variants.{Ended, Over, Next}
-use Rattle.chain.specs.Walk.{Standing, Walk, Walked, atFault, broken, ended, ends, lastOf, ledTo, member, standingAt, turn}
+use Rattle.chain.specs.Walk.{Walk, Walked, broken, ends, lastOf, ledTo, member}
 use Rattle.chain.specs.Chain.{ChainIn, chainOf}
 use Rattle.chain.specs.Records.{every, labelled}
 use Rattle.chain.specs.Stages.{Chained, WholeFile, countIf, judgeAnswer, orderOf, recordsOf, stepAt, stepNext, tableWith, walkAnswer}
-use Rattle.chain.specs.Walk.Laws.{last-at, last-snoc, led-snoc, member-last, member-other, stands-again, stands-ended, stands-over, stops-at, walked-more, walked-most, walked-none}
+use Rattle.chain.proofs.Laws.Walk.{Stops, last-at, last-snoc, led-snoc, member-last, member-other, stops-again, stops-ended, stops-over, walked-more, walked-most, walked-none}
 use Rattle.chain.proofs.Laws.Chain.{chain-ends, stops-chain}
 
 -- ---- what an answer says
@@ -101,17 +100,16 @@ module _ (file marks : List ℕ) (last number met : ℕ) (p : Passed file marks 
       by [] w = omega arith
       by (r ∷ rs) w = rw (last-at (r ∷ rs) (length rs) refl) (w (length rs) (omega arith) .1)
 
-  -- the walk stops where it stands so
-  passed-stops : (s : Standing) (w : Walk) → standingAt (recordsStored file) (p .records) number ≡ s → turn s (p .records) (λ more. none) ≡ some w
-      → chainOf file ≡ w
-  passed-stops s w e t =
-      stops-chain (nextOf file) (recordsStored file) (firstRecord file) w
-      (stops-at (nextOf file) (recordsStored file) (firstRecord file) (p .records) s w (p .walked)
-      (ap (standingAt (recordsStored file) (p .records)) (sym (p .at)) ∙ e) t)
+  -- the walk stops where it is led to a number that it does not go on to
+  passed-stops : (w : Walk) → Stops (recordsStored file) (p .records) number w → chainOf file ≡ w
+  passed-stops w s =
+      stops-chain (nextOf file) (recordsStored file) (firstRecord file) (p .records) w (p .walked)
+      (subst (λ n. Stops (recordsStored file) (p .records) n w) (p .at) s)
 
-  passed-broken : (refused : ℕ) → standingAt (recordsStored file) (p .records) number ≡ atFault refused → walkAnswer (chainOf file) ≡ Refused (refusalAt refused last)
-  passed-broken refused e =
-      ap walkAnswer (passed-stops (atFault refused) (broken refused (lastOf (p .records))) e refl) ∙ ap (λ r. Refused (refusalAt refused r)) (sym (p .ends-with))
+  passed-broken : (refused : ℕ) → Stops (recordsStored file) (p .records) number (broken refused (lastOf (p .records)))
+      → walkAnswer (chainOf file) ≡ Refused (refusalAt refused last)
+  passed-broken refused s =
+      ap walkAnswer (passed-stops (broken refused (lastOf (p .records))) s) ∙ ap (λ r. Refused (refusalAt refused r)) (sym (p .ends-with))
 
   -- so each step says what the chain is, or that the number is a record's
 
@@ -119,7 +117,7 @@ module _ (file marks : List ℕ) (last number met : ℕ) (p : Passed file marks 
   step-ended n e =
       let chose = chose-first (eqb number 0) (not-ended (leb number (recordsStored file)) (nextOf file number) n) e in
       let counts : met ≡ n = let same = chose .1 in cc in
-      ap walkAnswer (passed-stops ended (ends (p .records)) (stands-ended (recordsStored file) (p .records) number (eqb-true number 0 (chose .0))) refl)
+      ap walkAnswer (passed-stops (ends (p .records)) (stops-ended (recordsStored file) (p .records) number (eqb-true number 0 (chose .0))))
       ∙ ap Counted (sym (p .counted) ∙ counts)
     where
       not-ended : (b : Bool) (next n : ℕ) → cond b (Next next) Over ≡ Ended n → ⊥
@@ -130,7 +128,7 @@ module _ (file marks : List ℕ) (last number met : ℕ) (p : Passed file marks 
   step-over e =
       let past = chose-second (eqb number 0) (λ q. let z : _≡_ {A = ℕ} 0 1 = cc in omega arith) e in
       let stops = chose-second (leb number (recordsStored file)) (λ q. let z : _≡_ {A = ℕ} 0 1 = cc in omega arith) (past .1) in
-      passed-broken 3 (stands-over (recordsStored file) (p .records) number (leb-false number (recordsStored file) (stops .0)))
+      passed-broken 3 (stops-over (recordsStored file) (p .records) number (leb-false number (recordsStored file) (stops .0)))
 
   pub step-next : (n : ℕ) → stepAt file number met ≡ Next n → (1 ≤ number) × (number ≤ recordsStored file) × (nextOf file number ≡ n)
   step-next n e =
@@ -145,7 +143,7 @@ module _ (file marks : List ℕ) (last number met : ℕ) (p : Passed file marks 
     mark-again h = by (member number (p .records)) refl
       where
         by : (t : Bool) → member number (p .records) ≡ t → walkAnswer (chainOf file) ≡ Refused (refusalAt 16 last)
-        by true e = passed-broken 16 (stands-again (recordsStored file) (p .records) number l u e)
+        by true e = passed-broken 16 (stops-again (recordsStored file) (p .records) number l u e)
         by false e = absurd (h (p .marked number (omega arith) ∙ ap (λ t. cond t 1 0) e))
 
     pub mark-new : getD marks number 0 ≡ 0 → Passed file (set marks number 1) number (nextOf file number) (met + 1)

@@ -1,18 +1,18 @@
--- Laws of the walk (Walk). In order: numbers and lists; where a walk is led and how it stands; the records met, at most m; what a walk comes
--- to. Assumes nothing.
+-- Laws of the walk (Walk). In order: numbers and lists; where a walk is led, whether it goes on, and what it comes to; the records met, at
+-- most m; those met after m turns. Assumes nothing.
 use mathlib.Core.Path.{_≡_, refl, sym, ap, _∙_, subst}
 use mathlib.Core.Logic.{_≢_, _⊎_, inl, inr, ⊎-elim, ⊎-map}
-use mathlib.Core.Bool.{Bool, true, false, _||_, true≢false, false≢true}
-use mathlib.Core.Option.{Option, none, some}
+use mathlib.Core.Bool.{Bool, true, false, _||_, _&&_, not, cond, true≢false, false≢true}
 use mathlib.Core.List.{List, [], _∷_, _++_}
 use Prim.Native.Nat.{ℕ, zero, suc, _+_, _-_, _≤_, _<_, zero-le, suc-le-suc}
 use native.Mathlib.Nat.{le-of-suc-le-suc, eq-or-lt-of-le}
 use native.Mathlib.Omega.{arith}
-use lib.Dec.{ltb, eqb}
+use lib.Dec.{ltb, leb, eqb}
 use lib.ListN.{length, getD, take, length-append, List·getD-append}
 use lib.Seq.{getD-append-seam, getD-take, length-take-le, take-length, take-suc}
-use borrow.Author.Tests.{ltb-true, ltb-false, le-ltb, lt-ltb, ne-eqb, eqb-true, eqb-false}
-use Rattle.chain.specs.Walk.{Standing, Walk, Walked, atFault, broken, ended, ends, goesOn, lastOf, ledTo, member, standing, standingAt, turn, walk}
+use borrow.Author.Tests.{ltb-true, ltb-false, leb-true, le-ltb, lt-ltb, le-leb, lt-leb, ne-eqb, eqb-true, eqb-false, not-true}
+use Rattle.integers.proofs.Laws.Test.{&&-both, &&-false-right, clash, not-false-true, not-true-false}
+use Rattle.chain.specs.Walk.{Walk, Walked, broken, comesTo, ends, goesOn, lastOf, ledTo, member, recordsMet}
 
 -- ---- the pigeonhole principle
 
@@ -141,72 +141,66 @@ pub led-at : (next : ℕ → ℕ) (first : ℕ) (met : List ℕ) (k : ℕ) → s
 led-at next first [] k e = absurd (omega arith)
 led-at next first (x ∷ met) k e = ap next (last-at (x ∷ met) k e)
 
--- ---- how a walk stands, by the number that it is led to
-
-pub data Place (m : ℕ) (met : List ℕ) (number : ℕ) : Type 0 where
-  at-end : number ≡ 0 → Place m met number
-  over : m < number → Place m met number
-  again : 1 ≤ number → number ≤ m → member number met ≡ true → Place m met number
-  new : 1 ≤ number → number ≤ m → member number met ≡ false → Place m met number
-
-pub place : (m : ℕ) (met : List ℕ) (number : ℕ) → Place m met number
-place m met zero = at-end refl
-place m met (suc n) = by (ltb m (suc n)) (member (suc n) met) refl refl
-  where
-    by : (t u : Bool) → ltb m (suc n) ≡ t → member (suc n) met ≡ u → Place m met (suc n)
-    by true u e f = over (ltb-true m (suc n) e)
-    by false true e f = again (omega arith) (ltb-false m (suc n) e) f
-    by false false e f = new (omega arith) (ltb-false m (suc n) e) f
+-- ---- whether a walk goes on to a number, and what it comes to there
 
 module _ (m : ℕ) (met : List ℕ) (number : ℕ) where
-  pub stands-ended : number ≡ 0 → standingAt m met number ≡ ended
-  stands-ended e = rw e
+  goes-on : 1 ≤ number → number ≤ m → member number met ≡ false → goesOn m met number ≡ true
+  goes-on l h e = rw (le-leb 1 number l, le-leb number m h, e)
 
-  pub stands-over : m < number → standingAt m met number ≡ atFault 3
-  stands-over h = rw (ne-eqb number 0 (λ z. omega arith), lt-ltb m number h)
+  went-on : goesOn m met number ≡ true → (1 ≤ number) × (number ≤ m) × (member number met ≡ false)
+  went-on e =
+      let both = &&-both (leb 1 number && leb number m) (not (member number met)) e in
+      let range = &&-both (leb 1 number) (leb number m) (both .0) in
+      (leb-true 1 number (range .0), leb-true number m (range .1), not-true (member number met) (both .1))
 
-  pub stands-again : 1 ≤ number → number ≤ m → member number met ≡ true → standingAt m met number ≡ atFault 16
-  stands-again l h e = rw (ne-eqb number 0 (λ z. omega arith), le-ltb m number h, e)
+  -- that a walk which has met these records and is led to this number does not go on, and comes to w
+  pub record Stops (w : Walk) : Type 0 where
+    pub stays : goesOn m met number ≡ false
+    pub there : comesTo m met number ≡ w
 
-  pub stands-new : 1 ≤ number → number ≤ m → member number met ≡ false → standingAt m met number ≡ goesOn number
-  stands-new l h e = rw (ne-eqb number 0 (λ z. omega arith), le-ltb m number h, e)
+  pub stops-ended : number ≡ 0 → Stops (ends met)
+  stops-ended e = record { stays = rw e; there = rw e }
+
+  pub stops-over : m < number → Stops (broken 3 (lastOf met))
+  stops-over h =
+      record {
+        stays = rw (lt-leb number m h, &&-false-right (leb 1 number) refl);
+        there = rw (ne-eqb number 0 (λ z. omega arith), lt-ltb m number h);
+      }
+
+  pub stops-again : 1 ≤ number → number ≤ m → member number met ≡ true → Stops (broken 16 (lastOf met))
+  stops-again l h e =
+      record {
+        stays = rw (le-leb 1 number l, le-leb number m h, e);
+        there = rw (ne-eqb number 0 (λ z. omega arith), le-ltb m number h);
+      }
 
   -- and back
-  pub stood-ended : standingAt m met number ≡ ended → number ≡ 0
-  stood-ended e = by (place m met number)
+  pub stopped-ends : (rs : List ℕ) → Stops (ends rs) → (number ≡ 0) × (met ≡ rs)
+  stopped-ends rs s = by (eqb number 0) (ltb m number) refl (s .there)
     where
-      by : Place m met number → number ≡ 0
-      by (at-end q) = q
-      by (over h) = let q = sym (stands-over h) ∙ e in let z : _≡_ {A = ℕ} 0 1 = cc in absurd (omega arith)
-      by (again l h q) = let p = sym (stands-again l h q) ∙ e in let z : _≡_ {A = ℕ} 0 1 = cc in absurd (omega arith)
-      by (new l h q) = let p = sym (stands-new l h q) ∙ e in let z : _≡_ {A = ℕ} 0 1 = cc in absurd (omega arith)
+      by : (t u : Bool) → eqb number 0 ≡ t → cond t (ends met) (cond u (broken 3 (lastOf met)) (broken 16 (lastOf met))) ≡ ends rs
+          → (number ≡ 0) × (met ≡ rs)
+      by true u e q = (eqb-true number 0 e, cc)
+      by false true e q = let z : _≡_ {A = ℕ} 0 1 = cc in absurd (omega arith)
+      by false false e q = let z : _≡_ {A = ℕ} 0 1 = cc in absurd (omega arith)
 
-  pub stood-at-fault : (refused : ℕ) → standingAt m met number ≡ atFault refused
-      → ((refused ≡ 3) × (m < number)) ⊎ ((refused ≡ 16) × (member number met ≡ true))
-  stood-at-fault refused e = by (place m met number)
+  pub stopped-broken : (refused r : ℕ) → Stops (broken refused r)
+      → (((refused ≡ 3) × (m < number)) ⊎ ((refused ≡ 16) × (member number met ≡ true))) × (lastOf met ≡ r)
+  stopped-broken refused r s = by (eqb number 0) (ltb m number) refl refl (s .there)
     where
-      by : Place m met number → ((refused ≡ 3) × (m < number)) ⊎ ((refused ≡ 16) × (member number met ≡ true))
-      by (at-end q) = let p = sym (stands-ended q) ∙ e in let z : _≡_ {A = ℕ} 0 1 = cc in absurd (omega arith)
-      by (over h) = let p = sym e ∙ stands-over h in inl (cc, h)
-      by (again l h q) = let p = sym e ∙ stands-again l h q in inr (cc, q)
-      by (new l h q) = let p = sym (stands-new l h q) ∙ e in let z : _≡_ {A = ℕ} 0 1 = cc in absurd (omega arith)
+      -- a record stored that the walk does not go on to was met
+      again : eqb number 0 ≡ false → ltb m number ≡ false → member number met ≡ true
+      again e o =
+          let other = eqb-false number 0 e in
+          not-false-true (member number met) (λ new. clash (goes-on (omega arith) (ltb-false m number o) new) (s .stays))
 
--- ---- what a turn says of how the walk stands, where it is the last
-
-pub turn-ends : (s : Standing) (met rs : List ℕ) → turn s met (λ more. none) ≡ some (ends rs) → (s ≡ ended) × (met ≡ rs)
-turn-ends ended met rs e = (refl, cc)
-turn-ends (atFault number) met rs e = let z : _≡_ {A = ℕ} 0 1 = cc in absurd (omega arith)
-turn-ends (goesOn r) met rs e = let z : _≡_ {A = ℕ} 0 1 = cc in absurd (omega arith)
-
-pub turn-broken : (s : Standing) (met : List ℕ) (number r : ℕ) → turn s met (λ more. none) ≡ some (broken number r) → (s ≡ atFault number) × (lastOf met ≡ r)
-turn-broken ended met number r e = let z : _≡_ {A = ℕ} 0 1 = cc in absurd (omega arith)
-turn-broken (atFault n) met number r e = (cc, cc)
-turn-broken (goesOn q) met number r e = let z : _≡_ {A = ℕ} 0 1 = cc in absurd (omega arith)
-
-turn-stops : (s : Standing) (met : List ℕ) (go : List ℕ → Option Walk) (w : Walk) → turn s met (λ more. none) ≡ some w → turn s met go ≡ some w
-turn-stops ended met go w e = e
-turn-stops (atFault number) met go w e = e
-turn-stops (goesOn r) met go w e = let z : _≡_ {A = ℕ} 0 1 = cc in absurd (omega arith)
+      by : (t u : Bool) → eqb number 0 ≡ t → ltb m number ≡ u
+          → cond t (ends met) (cond u (broken 3 (lastOf met)) (broken 16 (lastOf met))) ≡ broken refused r
+          → (((refused ≡ 3) × (m < number)) ⊎ ((refused ≡ 16) × (member number met ≡ true))) × (lastOf met ≡ r)
+      by true u e o q = let z : _≡_ {A = ℕ} 0 1 = cc in absurd (omega arith)
+      by false true e o q = (inl (cc, ltb-true m number o), cc)
+      by false false e o q = (inr (cc, again e o), cc)
 
 module _ (next : ℕ → ℕ) (m first : ℕ) where
   -- ---- the records met
@@ -231,10 +225,11 @@ module _ (next : ℕ → ℕ) (m first : ℕ) where
       ap (ledTo next first) (take-suc met k 0 (omega arith)) ∙ led-snoc next first (take k met) (getD met k 0) ∙ w .links k h
 
   -- and goes on to it: no record before the last is at fault
-  pub walked-goes : (met : List ℕ) → Walked next m first met → (k : ℕ) → k < length met → standing next m first (take k met) ≡ goesOn (getD met k 0)
+  pub walked-goes : (met : List ℕ) → Walked next m first met → (k : ℕ) → k < length met
+      → goesOn m (take k met) (ledTo next first (take k met)) ≡ true
   walked-goes met w k h =
-      ap (standingAt m (take k met)) (walked-led met w k h)
-      ∙ stands-new m (take k met) (getD met k 0) (w .within k h .0) (w .within k h .1) (no-member (getD met k 0) (take k met) others)
+      ap (goesOn m (take k met)) (walked-led met w k h)
+      ∙ goes-on m (take k met) (getD met k 0) (w .within k h .0) (w .within k h .1) (no-member (getD met k 0) (take k met) others)
     where
       others : (j : ℕ) → j < length (take k met) → getD (take k met) j 0 ≢ getD met k 0
       others j l q =
@@ -272,74 +267,70 @@ module _ (next : ℕ → ℕ) (m first : ℕ) where
           (λ s. let d = w .distinct j k a (s .0) in omega (arith, List·getD-append met (r ∷ []) 0 j (omega arith)))
           (snoc-cases met r k b)
 
-  -- ---- what a walk comes to: where it stops, and that it stops there
+  -- so the one that a walk goes on to does
+  walked-on : (met : List ℕ) → Walked next m first met → goesOn m met (ledTo next first met) ≡ true
+      → Walked next m first (met ++ (ledTo next first met ∷ []))
+  walked-on met w e =
+      let new = went-on m met (ledTo next first met) e in
+      walked-more met (ledTo next first met) w refl (new .0) (new .1) (new .2)
 
-  -- that the walk meets some records and then comes to w
-  pub record Stops (w : Walk) : Type 0 where
-    pub met : List ℕ
+  -- ---- after m turns a walk has met all records that it meets
+
+  -- that a walk meets these records and goes on to no other
+  pub record MeetsAll (met : List ℕ) : Type 0 where
     pub walked : Walked next m first met
-    pub there : turn (standing next m first met) met (λ more. none) ≡ some w
+    pub stays : goesOn m met (ledTo next first met) ≡ false
 
-  -- by how the walk stands there
-  pub stops-at : (met : List ℕ) (s : Standing) (w : Walk) → Walked next m first met → standing next m first met ≡ s
-      → turn s met (λ more. none) ≡ some w → Stops w
-  stops-at met s w walked e t = record { met = met; walked = walked; there = ap (λ y. turn y met (λ more. none)) e ∙ t }
+  -- a turn of a walk that goes on, and the turns of one that does not
+  met-more : (turns : ℕ) (met : List ℕ) → goesOn m met (ledTo next first met) ≡ true
+      → recordsMet next m first (suc turns) met ≡ recordsMet next m first turns (met ++ (ledTo next first met ∷ []))
+  unfolding recordsMet
+  met-more turns met e = rw e
 
-  -- within turns over those that are left of m it comes to something
-  come-to : (turns : ℕ) (met : List ℕ) → Walked next m first met → m < turns + length met
-      → (w : Walk) × (walk next m first turns met ≡ some w) × Stops w
-  unfolding walk
-  come-to zero met w h = absurd (omega (arith, walked-most met w))
-  come-to (suc turns) met w h = by (place m met (ledTo next first met)) (come-to turns)
+  met-no-more : (turns : ℕ) (met : List ℕ) → goesOn m met (ledTo next first met) ≡ false → recordsMet next m first turns met ≡ met
+  unfolding recordsMet
+  met-no-more zero met e = refl
+  met-no-more (suc turns) met e = rw e
+
+  met-here : (turns : ℕ) (met : List ℕ) → MeetsAll met → MeetsAll (recordsMet next m first turns met)
+  met-here turns met all = subst MeetsAll (sym (met-no-more turns met (all .stays))) all
+
+  -- the turns that are left of m suffice
+  met-within : (turns : ℕ) (met : List ℕ) → Walked next m first met → m ≤ turns + length met → MeetsAll (recordsMet next m first turns met)
+  met-within zero met w h = met-here zero met (record { walked = w; stays = not-true-false (goesOn m met (ledTo next first met)) none-left })
     where
-      -- it stands where it stops, in this turn
-      here : (s : Standing) (x : Walk) → standing next m first met ≡ s → ((go : List ℕ → Option Walk) → turn s met go ≡ some x)
-          → (w : Walk) × (walk next m first (suc turns) met ≡ some w) × Stops w
-      here s x e t =
-          (x, ap (λ y. turn y met (λ more. walk next m first turns more)) e ∙ t _, stops-at met s x w e (t _))
+      none-left : goesOn m met (ledTo next first met) ≡ true → ⊥
+      none-left e = omega (arith, walked-most _ (walked-on met w e), length-append met (ledTo next first met ∷ []))
+  met-within (suc turns) met w h = by (goesOn m met (ledTo next first met)) refl (met-within turns)
+    where
+      by : (t : Bool) → goesOn m met (ledTo next first met) ≡ t
+          → ((more : List ℕ) → Walked next m first more → m ≤ turns + length more → MeetsAll (recordsMet next m first turns more))
+          → MeetsAll (recordsMet next m first (suc turns) met)
+      by true e below =
+          subst MeetsAll (sym (met-more turns met e))
+          (below _ (walked-on met w e) (omega (arith, length-append met (ledTo next first met ∷ []))))
+      by false e below = met-here (suc turns) met (record { walked = w; stays = e })
 
-      by : Place m met (ledTo next first met)
-          → ((more : List ℕ) → Walked next m first more → m < turns + length more → (w : Walk) × (walk next m first turns more ≡ some w) × Stops w)
-          → (w : Walk) × (walk next m first (suc turns) met ≡ some w) × Stops w
-      by (at-end q) below = here ended (ends met) (stands-ended m met (ledTo next first met) q) (λ go. refl)
-      by (over q) below = here (atFault 3) (broken 3 (lastOf met)) (stands-over m met (ledTo next first met) q) (λ go. refl)
-      by (again l q e) below = here (atFault 16) (broken 16 (lastOf met)) (stands-again m met (ledTo next first met) l q e) (λ go. refl)
-      by (new l q e) below =
-          let r = ledTo next first met in
-          let found = below (met ++ (r ∷ [])) (walked-more met r w refl l q e) (omega (arith, length-append met (r ∷ []))) in
-          (found .0, ap (λ y. turn y met (λ more. walk next m first turns more)) (stands-new m met r l q e) ∙ found .1, found .2)
-
-  -- so more turns than m suffice
-  pub walk-stops : (turns : ℕ) → m < turns → ¬ (walk next m first turns [] ≡ none)
-  walk-stops turns h e =
-      let found = come-to turns [] walked-none (omega arith) in
-      let q : none ≡ some (found .0) = sym e ∙ found .1 in
-      let z : _≡_ {A = ℕ} 0 1 = cc in
-      omega arith
+  -- so m turns do from the first record on
+  pub walk-stops : MeetsAll (recordsMet next m first m [])
+  walk-stops = met-within m [] walked-none (omega arith)
 
   -- a walk meets the records that it is to meet, one in each turn
-  walk-along : (met : List ℕ) → Walked next m first met → (k turns : ℕ) → k ≤ length met → walk next m first (k + turns) [] ≡ walk next m first turns (take k met)
-  unfolding walk
-  walk-along met w zero turns h = ap (λ t. walk next m first t []) (let e : 0 + turns ≡ turns = omega arith in e)
-  walk-along met w (suc k) turns h =
-      ap (λ t. walk next m first t []) (let e : suc k + turns ≡ k + suc turns = omega arith in e)
-      ∙ walk-along met w k (suc turns) (omega arith)
-      ∙ ap (λ s. turn s (take k met) (λ more. walk next m first turns more)) (walked-goes met w k h)
-      ∙ ap (walk next m first turns) (sym (take-suc met k 0 h))
+  met-along : (met : List ℕ) → Walked next m first met → (k turns : ℕ) → k ≤ length met
+      → recordsMet next m first (k + turns) [] ≡ recordsMet next m first turns (take k met)
+  met-along met w zero turns h = ap (λ t. recordsMet next m first t []) (let e : 0 + turns ≡ turns = omega arith in e)
+  met-along met w (suc k) turns h =
+      ap (λ t. recordsMet next m first t []) (let e : suc k + turns ≡ k + suc turns = omega arith in e)
+      ∙ met-along met w k (suc turns) (omega arith)
+      ∙ met-more turns (take k met) (walked-goes met w k h)
+      ∙ ap (recordsMet next m first turns) (ap (λ r. take k met ++ (r ∷ [])) (walked-led met w k h) ∙ sym (take-suc met k 0 h))
 
-  -- so the walk of m turns and one more comes to w exactly where it stops with w
-  pub walk-found : (w : Walk) → walk next m first (suc m) [] ≡ some w → Stops w
-  walk-found w e =
-      let found = come-to (suc m) [] walked-none (omega arith) in
-      let same : found .0 ≡ w = let q = sym (found .1) ∙ e in cc in
-      subst Stops same (found .2)
-
-  pub stops-found : (w : Walk) → Stops w → walk next m first (suc m) [] ≡ some w
-  unfolding walk
-  stops-found w s =
-      let few = walked-most (s .met) (s .walked) in
-      let turns : suc m ≡ length (s .met) + suc (m - length (s .met)) = omega arith in
-      ap (λ t. walk next m first t []) turns
-      ∙ walk-along (s .met) (s .walked) (length (s .met)) (suc (m - length (s .met))) (omega arith)
-      ∙ ap (walk next m first (suc (m - length (s .met)))) (take-length (s .met))
-      ∙ turn-stops (standing next m first (s .met)) (s .met) (λ more. walk next m first (m - length (s .met)) more) w (s .there)
+  -- so no others are all that it meets
+  pub met-all : (met : List ℕ) → MeetsAll met → recordsMet next m first m [] ≡ met
+  met-all met all =
+      let few = walked-most met (all .walked) in
+      let left = m - length met in
+      ap (λ t. recordsMet next m first t []) (let e : m ≡ length met + left = omega arith in e)
+      ∙ met-along met (all .walked) (length met) left (omega arith)
+      ∙ ap (recordsMet next m first left) (take-length met)
+      ∙ met-no-more left met (all .stays)
