@@ -2,6 +2,8 @@
 -- Assumes nothing.
 use mathlib.Core.List.{List}
 use Prim.Native.Nat.{ℕ}
+use Rattle.training_file.specs.declared.refusal.Refusal.{Refusal}
+use Rattle.training_file.specs.Refusal.{noRefusal}
 use Rattle.reading.specs.Reading.{Reading, refused, accepted, reading}
 use Rattle.dual_problem.specs.Problem.{BoundedDistance, Problem, bLow, bUp, problem}
 use Rattle.dual_problem.specs.Items.{at}
@@ -31,6 +33,11 @@ certifyRead (accepted p order items) a = certifyItems (problem p items) a
 
 abbrev pub certifying : List ℕ → List ℕ → Certified
 certifying file a = certifyRead (reading file) a
+
+-- the refusal that an answer is
+abbrev pub certifiedRefusal : Certified → Refusal
+certifiedRefusal (Refused why) = why
+certifiedRefusal (Found thresholds) = noRefusal
 
 -- Demand 3, "the same holds for any multipliers that certifying accepts, whatever their source, with the thresholds that it answers"
 abbrev pub CertifiedDistance : Reading → List ℕ → Certified → Type 0

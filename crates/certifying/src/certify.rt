@@ -5,7 +5,7 @@ ghost use mathlib.Core.Path.{_≡_};
 ghost use Rattle.training_file.specs.Parameters.{Ranges};
 ghost use Rattle.reading.specs.Reading.{reading};
 ghost use Rattle.dual_problem.specs.Items.{Listed, MultipliersListed, at, problemOf};
-ghost use Rattle.certifying.specs.Certify.{CertifiedDistance, certifyItems, certifying, thresholdsOf};
+ghost use Rattle.certifying.specs.Certify.{CertifiedDistance, certifiedRefusal, certifyItems, certifying, thresholdsOf};
 use super::multipliers::Judgement;
 use super::multipliers::judge;
 use dual_problem::gradient::fill_gradient;
@@ -25,6 +25,18 @@ pub struct Thresholds {
 pub enum Certified {
     Refused(Refusal),
     Found(Thresholds),
+}
+
+impl Certified {
+    // The refusal, where this is one.
+    pub fn refusal(self) -> Refusal
+        ensures { λ r. ⌜ r ≡ certifiedRefusal self ⌝ }
+    {
+        match self {
+            Certified::Refused(refusal) => refusal,
+            Certified::Found(_) => Refusal::NONE,
+        }
+    }
 }
 
 // Both thresholds of multipliers that were judged. G is worked out here, so that no list has to be lent for it.

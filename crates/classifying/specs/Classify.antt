@@ -11,7 +11,8 @@ use lib.Signed.{_<ℤ_}
 use Rattle.integers.specs.Places.{all}
 use Rattle.training_file.specs.declared.parameters.Parameters.{Parameters}
 use Rattle.training_file.specs.declared.item.Item.{Item}
-use Rattle.training_file.specs.Refusal.{refusal}
+use Rattle.training_file.specs.declared.refusal.Refusal.{Refusal}
+use Rattle.training_file.specs.Refusal.{noRefusal, refusal}
 use Rattle.training_file.specs.Layout.{featureCount}
 use Rattle.training_file.specs.Item.{featureAllowed}
 use Rattle.reading.specs.Calls.{itemIn}
@@ -77,6 +78,11 @@ classifyRead (accepted p order items) a word = classifyItems p items a word
 
 abbrev pub classifying : List ℕ → List ℕ → List ℤ → Classified
 classifying file a word = classifyRead (reading file) a word
+
+-- the refusal that an answer is
+abbrev pub classifiedRefusal : Classified → Refusal
+classifiedRefusal (Refused why) = why
+classifiedRefusal (Is class) = noRefusal
 
 -- a refusal, or undecided: what multipliers that are all 0 give every word (`zeros-undecided`)
 abbrev pub UndecidedUnlessRefused : Classified → Type 0

@@ -5,7 +5,7 @@ ghost use Rattle.training_file.specs.Parameters.{Ranges};
 ghost use Rattle.reading.specs.Reading.{reading};
 ghost use Rattle.reading.specs.Calls.{itemsIn};
 ghost use Rattle.dual_problem.specs.Items.{Listed, at};
-ghost use Rattle.classifying.specs.Classify.{Scorable, classOf, classifyItems, classifying, scoreWith};
+ghost use Rattle.classifying.specs.Classify.{Scorable, classOf, classifiedRefusal, classifyItems, classifying, scoreWith};
 use super::word::word_allowed;
 use super::word::word_item;
 use certifying::certify::Thresholds;
@@ -44,6 +44,18 @@ impl Class {
 pub enum Classified {
     Refused(Refusal),
     Is(Class),
+}
+
+impl Classified {
+    // The refusal, where this is one.
+    pub fn refusal(self) -> Refusal
+        ensures { λ r. ⌜ r ≡ classifiedRefusal self ⌝ }
+    {
+        match self {
+            Classified::Refused(refusal) => refusal,
+            Classified::Is(_) => Refusal::NONE,
+        }
+    }
 }
 
 // The doubled score of a word, with the thresholds of the multipliers, which the caller has worked out.

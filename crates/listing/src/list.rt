@@ -22,10 +22,10 @@ use training_file::item::Item;
 fn item_count(answer: FileAnswer) -> usize
     ensures { λ r. ⌜ r ≡ itemCount answer ⌝ }
 {
-    match answer {
-        FileAnswer::Refused(_) => 0,
-        FileAnswer::Accepted(_, count) => count,
-    }
+    let FileAnswer::Accepted(_, count) = answer else {
+        return 0;
+    };
+    count
 }
 
 // The result line, a line for each item, in chain order, and their total.
@@ -46,10 +46,10 @@ fn put_training(file: &[u8], training: Training, multipliers: &[u32], out: &mut 
         × Room (listingIn training (now file) (now multipliers)) 0 (now out) ⌝ }
     ensures { λ r. ⌜ Put (listingIn training (now (file .entry)) (now (multipliers .entry))) 0 (now (out .entry)) (now (out .exit)) r ⌝ }
 {
-    match training {
-        Training::Refused(refusal) => put_refusal(out, 0, refusal),
-        Training::Ended(trained) => put_trained(file, trained, multipliers, out),
-    }
+    let Training::Ended(trained) = training else {
+        return put_refusal(out, 0, training.refusal());
+    };
+    put_trained(file, trained, multipliers, out)
 }
 
 // No listing is longer: line one has at most 75 bytes, each of at most 256 items adds at most 14, and the total at most 69.

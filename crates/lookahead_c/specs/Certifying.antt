@@ -4,18 +4,13 @@ use Prim.Native.Nat.{ℕ, zero, suc}
 use Rattle.training_file.specs.declared.parameters.Parameters.{Parameters}
 use Rattle.training_file.specs.declared.item.Item.{Item}
 use Rattle.training_file.specs.declared.refusal.Refusal.{Refusal}
-use Rattle.training_file.specs.Refusal.{noRefusal}
 use Rattle.reading.specs.Reading.{Reading, refused, accepted}
 use Rattle.dual_problem.specs.Problem.{BoundedDistance, problem}
 use Rattle.dual_problem.specs.Items.{at}
 use Rattle.certifying.specs.declared.certify.Certified.{Certified}
 use Rattle.certifying.specs.declared.certify.Certified.the-variants.{Refused, Found}
 use Rattle.certifying.specs.declared.certify.Thresholds.{Thresholds}
-
--- the refusal, or none
-abbrev pub certifyRefusal : Certified → Refusal
-certifyRefusal (Refused why) = why
-certifyRefusal (Found thresholds) = noRefusal
+use Rattle.certifying.specs.Certify.{certifiedRefusal}
 
 -- both lent numbers after the call, by those before it: a refusal changes neither
 abbrev pub certifyFound : Certified → Thresholds → Thresholds
@@ -28,7 +23,7 @@ pub record CertifySeen : Type 0 where
   pub found : Thresholds
 
 abbrev pub certifySeen : Certified → Thresholds → CertifySeen
-certifySeen answer before = record { refusal = certifyRefusal answer; found = certifyFound answer before }
+certifySeen answer before = record { refusal = certifiedRefusal answer; found = certifyFound answer before }
 
 -- Demand 3, of the multipliers handed in and of what the caller sees after an answer of number 0
 abbrev pub AnsweredDistance : Parameters → List Item → List ℕ → ℕ → Thresholds → Type 0

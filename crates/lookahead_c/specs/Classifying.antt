@@ -1,15 +1,10 @@
 -- What a call for classifying answers in C, by what the library answers. Assumes nothing.
 use Prim.Native.Nat.{ℕ}
 use Rattle.training_file.specs.declared.refusal.Refusal.{Refusal}
-use Rattle.training_file.specs.Refusal.{noRefusal}
 use Rattle.classifying.specs.declared.classify.Classified.{Classified}
 use Rattle.classifying.specs.declared.classify.Classified.the-variants.{Refused, Is}
+use Rattle.classifying.specs.Classify.{classifiedRefusal}
 use Rattle.lookahead_c.specs.Numbering.{classNumber}
-
--- the refusal, or none
-abbrev pub classifyRefusal : Classified → Refusal
-classifyRefusal (Refused why) = why
-classifyRefusal (Is class) = noRefusal
 
 -- the lent number after the call, by the one before it: a refusal does not change it
 abbrev pub classifyFound : Classified → ℕ → ℕ
@@ -22,4 +17,4 @@ pub record ClassifySeen : Type 0 where
   pub found : ℕ
 
 abbrev pub classifySeen : Classified → ℕ → ClassifySeen
-classifySeen answer before = record { refusal = classifyRefusal answer; found = classifyFound answer before }
+classifySeen answer before = record { refusal = classifiedRefusal answer; found = classifyFound answer before }

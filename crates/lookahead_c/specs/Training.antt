@@ -7,19 +7,13 @@ use lib.ListN.{length, take}
 use Rattle.training_file.specs.declared.parameters.Parameters.{Parameters}
 use Rattle.training_file.specs.declared.item.Item.{Item}
 use Rattle.training_file.specs.declared.refusal.Refusal.{Refusal}
-use Rattle.training_file.specs.Refusal.{noRefusal}
 use Rattle.reading.specs.Reading.{Reading, refused, accepted}
 use Rattle.dual_problem.specs.Problem.{problem}
 use Rattle.smo.specs.declared.ending.Ending.{Ending}
 use Rattle.training.specs.declared.train.Training.{Training}
 use Rattle.training.specs.declared.train.Training.the-variants.{Refused, Ended}
-use Rattle.training.specs.Train.{ResultQuality, TrainingLeft}
+use Rattle.training.specs.Train.{ResultQuality, TrainingLeft, trainingRefusal}
 use Rattle.lookahead_c.specs.Numbering.{endingNumber}
-
--- the refusal, or none
-abbrev pub trainRefusal : Training → Refusal
-trainRefusal (Refused why) = why
-trainRefusal (Ended result) = noRefusal
 
 -- the single numbers that the caller lends
 pub record TrainNumbers : Type 0 where
@@ -43,7 +37,7 @@ pub record TrainSeen : Type 0 where
 abbrev pub trainSeen : TrainingLeft → TrainNumbers → TrainSeen
 trainSeen left before =
     record {
-      refusal = trainRefusal (left .answer);
+      refusal = trainingRefusal (left .answer);
       multipliers = left .multipliers;
       gradient = left .gradient;
       found = trainFound (left .answer) before;

@@ -23,15 +23,13 @@ pub extern "C" fn lookahead_certify(
         (record { refusal = r; found = record { lower = now (lower .exit); upper = now (upper .exit) } }) ⌝ }
 {
     let certified = lookahead::certify::certify(file, multipliers);
-    match certified {
-        Certified::Refused(refusal) => refusal,
-        Certified::Found(thresholds) => {
-            // The checker follows a signed number that is written from a local, not from a field.
-            let b_low = thresholds.lower;
-            let b_up = thresholds.upper;
-            *lower = b_low;
-            *upper = b_up;
-            Refusal::NONE
-        }
-    }
+    let Certified::Found(thresholds) = certified else {
+        return certified.refusal();
+    };
+    // The checker follows a signed number that is written from a local, not from a field.
+    let b_low = thresholds.lower;
+    let b_up = thresholds.upper;
+    *lower = b_low;
+    *upper = b_up;
+    Refusal::NONE
 }

@@ -20,11 +20,9 @@ pub extern "C" fn lookahead_classify(
         ≡ classifySeen (classifying (now (file .entry)) (now (multipliers .entry)) (now (word .entry))) (now (class .entry)) ⌝ }
 {
     let classified = lookahead::classify::classify(file, multipliers, word);
-    match classified {
-        Classified::Refused(refusal) => refusal,
-        Classified::Is(found) => {
-            *class = class_number(found);
-            Refusal::NONE
-        }
-    }
+    let Classified::Is(found) = classified else {
+        return classified.refusal();
+    };
+    *class = class_number(found);
+    Refusal::NONE
 }

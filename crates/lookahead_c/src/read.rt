@@ -25,15 +25,13 @@ pub extern "C" fn lookahead_read(
         (record { items = now (items .entry); used = now (used .entry); kernel = now (kernel .entry) }) ⌝ }
 {
     let answer = lookahead::read::read(file, order);
-    match answer {
-        FileAnswer::Refused(refusal) => refusal,
-        FileAnswer::Accepted(parameters, count) => {
-            // The checker follows an enum that is passed on from a local, not from a field.
-            let which = parameters.kernel;
-            *items = count;
-            *used = parameters.used;
-            *kernel = which.to_byte();
-            Refusal::NONE
-        }
-    }
+    let FileAnswer::Accepted(parameters, count) = answer else {
+        return answer.refusal();
+    };
+    // The checker follows an enum that is passed on from a local, not from a field.
+    let which = parameters.kernel;
+    *items = count;
+    *used = parameters.used;
+    *kernel = which.to_byte();
+    Refusal::NONE
 }

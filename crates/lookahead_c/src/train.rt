@@ -38,18 +38,16 @@ pub extern "C" fn lookahead_train(
         }) ⌝ }
 {
     let training = lookahead::train::train(file, multipliers, gradient);
-    match training {
-        Training::Refused(refusal) => refusal,
-        Training::Ended(trained) => {
-            // The checker follows a signed number or an enum that is passed on from a local, not from a field.
-            let why = trained.ending;
-            let b_low = trained.lower;
-            let b_up = trained.upper;
-            *ending = ending_number(why);
-            *steps = trained.steps;
-            *lower = b_low;
-            *upper = b_up;
-            Refusal::NONE
-        }
-    }
+    let Training::Ended(trained) = training else {
+        return training.refusal();
+    };
+    // The checker follows a signed number or an enum that is passed on from a local, not from a field.
+    let why = trained.ending;
+    let b_low = trained.lower;
+    let b_up = trained.upper;
+    *ending = ending_number(why);
+    *steps = trained.steps;
+    *lower = b_low;
+    *upper = b_up;
+    Refusal::NONE
 }

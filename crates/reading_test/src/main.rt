@@ -32,15 +32,12 @@ fn show_refusal(refusal: Refusal) {
 }
 
 fn show_answer(answer: FileAnswer) {
-    match answer {
-        FileAnswer::Refused(refusal) => {
-            show_refusal(refusal);
-        }
-        FileAnswer::Accepted(_, items) => {
-            io::write_all(STDOUT_FILENO, b"accepted ");
-            io::print_decimal(STDOUT_FILENO, items as u64);
-        }
-    }
+    let FileAnswer::Accepted(_, items) = answer else {
+        show_refusal(answer.refusal());
+        return;
+    };
+    io::write_all(STDOUT_FILENO, b"accepted ");
+    io::print_decimal(STDOUT_FILENO, items as u64);
 }
 
 fn show_table(table: &[u16]) {

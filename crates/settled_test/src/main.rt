@@ -83,6 +83,14 @@ fn show_trained(trained: Trained) {
     show_thresholds(trained.lower, trained.upper);
 }
 
+fn show_training(training: Training) {
+    let Training::Ended(trained) = training else {
+        show_refusal(training.refusal());
+        return;
+    };
+    show_trained(trained);
+}
+
 fn show_multiplier(multiplier: u32) {
     show_number(multiplier as i64);
 }
@@ -90,14 +98,7 @@ fn show_multiplier(multiplier: u32) {
 // Three places are lent, also where there are two items: what training leaves alone shows.
 fn train(file: &[u8], mut multipliers: [u32; 3]) {
     let mut gradient = [9i64; 3];
-    match lookahead::train::train(file, &mut multipliers, &mut gradient) {
-        Training::Refused(refusal) => {
-            show_refusal(refusal);
-        }
-        Training::Ended(trained) => {
-            show_trained(trained);
-        }
-    }
+    show_training(lookahead::train::train(file, &mut multipliers, &mut gradient));
     io::write_all(STDOUT_FILENO, b", multipliers");
     show_multiplier(multipliers[0]);
     show_multiplier(multipliers[1]);
@@ -105,32 +106,30 @@ fn train(file: &[u8], mut multipliers: [u32; 3]) {
 }
 
 fn certify(file: &[u8], multipliers: &[u32]) {
-    match lookahead::certify::certify(file, multipliers) {
-        Certified::Refused(refusal) => {
-            show_refusal(refusal);
-        }
-        Certified::Found(thresholds) => {
-            show_thresholds(thresholds.lower, thresholds.upper);
-        }
-    }
+    let certified = lookahead::certify::certify(file, multipliers);
+    let Certified::Found(thresholds) = certified else {
+        show_refusal(certified.refusal());
+        return;
+    };
+    show_thresholds(thresholds.lower, thresholds.upper);
 }
 
 fn classify(file: &[u8], multipliers: &[u32], word: &[i8]) {
-    match lookahead::classify::classify(file, multipliers, word) {
-        Classified::Refused(refusal) => {
-            show_refusal(refusal);
+    let classified = lookahead::classify::classify(file, multipliers, word);
+    let Classified::Is(class) = classified else {
+        show_refusal(classified.refusal());
+        return;
+    };
+    match class {
+        Class::LookedUp => {
+            io::write_all(STDOUT_FILENO, b" looked up");
         }
-        Classified::Is(class) => match class {
-            Class::LookedUp => {
-                io::write_all(STDOUT_FILENO, b" looked up");
-            }
-            Class::PassedOver => {
-                io::write_all(STDOUT_FILENO, b" passed over");
-            }
-            Class::Undecided => {
-                io::write_all(STDOUT_FILENO, b" undecided");
-            }
-        },
+        Class::PassedOver => {
+            io::write_all(STDOUT_FILENO, b" passed over");
+        }
+        Class::Undecided => {
+            io::write_all(STDOUT_FILENO, b" undecided");
+        }
     }
 }
 

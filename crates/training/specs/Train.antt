@@ -11,7 +11,7 @@ use lib.ListN.{length, take}
 use Rattle.integers.specs.Written.{written}
 use Rattle.training_file.specs.declared.parameters.Parameters.{Parameters}
 use Rattle.training_file.specs.declared.refusal.Refusal.{Refusal}
-use Rattle.training_file.specs.Refusal.{refusal}
+use Rattle.training_file.specs.Refusal.{noRefusal, refusal}
 use Rattle.reading.specs.Reading.{Reading, refused, accepted, reading}
 use Rattle.dual_problem.specs.Problem.{BoundedDistance, Problem, gradient, problem}
 use Rattle.dual_problem.specs.Items.{at, problemOf}
@@ -54,6 +54,11 @@ trainRead (accepted p order items) a g =
 -- any file, with the lists as they are lent
 abbrev pub trainFile : List ℕ → List ℕ → List ℤ → TrainingLeft
 trainFile file a g = trainRead (reading file) a g
+
+-- the refusal that an answer is
+abbrev pub trainingRefusal : Training → Refusal
+trainingRefusal (Refused why) = why
+trainingRefusal (Ended result) = noRefusal
 
 -- for the code: what a run leaves on the items of a file that was read, with the outcome's multipliers in the first n places of their list
 abbrev pub trainFrom : List ℕ → Parameters → ℕ → List ℕ → List ℤ → RunLeft

@@ -7,7 +7,7 @@ ghost use Rattle.integers.specs.Written.{written};
 ghost use Rattle.training_file.specs.Parameters.{Ranges};
 ghost use Rattle.reading.specs.Reading.{reading};
 ghost use Rattle.dual_problem.specs.Items.{Listed};
-ghost use Rattle.training.specs.Train.{TrainingQuality, trainFile, trainFrom};
+ghost use Rattle.training.specs.Train.{TrainingQuality, trainFile, trainFrom, trainingRefusal};
 use dual_problem::gradient::fill_gradient;
 use reading::reader;
 use reading::reader::FileAnswer;
@@ -20,6 +20,18 @@ use training_file::refusal::Refusal;
 pub enum Training {
     Refused(Refusal),
     Ended(Trained),
+}
+
+impl Training {
+    // The refusal, where this is one.
+    pub fn refusal(self) -> Refusal
+        ensures { λ r. ⌜ r ≡ trainingRefusal self ⌝ }
+    {
+        match self {
+            Training::Refused(refusal) => refusal,
+            Training::Ended(_) => Refusal::NONE,
+        }
+    }
 }
 
 // Writes 0 at the first places.

@@ -17,14 +17,11 @@ use Rattle.reading.specs.Calls.{fileAnswer}
 use Rattle.reading.proofs.Laws.Reading.Fault.{refused-within}
 use Rattle.dual_problem.specs.Problem.{Problem, problem}
 use Rattle.dual_problem.specs.Items.{at}
-use Rattle.certifying.specs.declared.certify.Certified.the-variants as certified
 use Rattle.certifying.specs.declared.multipliers.Judgement.{Judgement}
 use Rattle.certifying.specs.declared.multipliers.Judgement.the-variants as judged
 use Rattle.certifying.specs.Multipliers.{balance, isZero, judgement, withinCeilings}
 use Rattle.certifying.specs.Certify.{certifying, certifyJudged, certifyRead}
-use Rattle.training.specs.declared.train.Training.the-variants as training
 use Rattle.training.specs.Train.{TrainingLeft, trainFile, trainRead}
-use Rattle.classifying.specs.declared.classify.Classified.the-variants as classified
 use Rattle.classifying.specs.Classify.{classifying, classifyItems, classifyJudged, classifyRead, wordAllowed}
 use Rattle.lookahead_c.specs.Refusals.{CertifyRefusals, ClassifyRefusals, ReadRefusals, TrainRefusals}
 

@@ -1,23 +1,17 @@
--- `lookahead_c::certify::lookahead_certify` meets its contract: each arm has the case of the library's answer. Assumes nothing.
-use mathlib.Core.Path.{_≡_, sym, _∙_, ap, subst}
-use mathlib.Core.List.{List}
-use Prim.Native.Nat.{ℕ}
+-- `lookahead_c::certify::lookahead_certify` meets its contract: each return has the case of the library's answer. Assumes nothing.
+use mathlib.Core.Path.{_≡_, refl, sym, _∙_, ap, subst}
 use mir.Syntax.{w64}
 use mir.Val.{toZ, ofZ}
 use borrow.Author.Needs.{needs}
-use Rattle.training_file.specs.Refusal.{noRefusal}
+use Rattle.training_file.specs.declared.refusal.Refusal.{Refusal}
 use Rattle.reading.specs.Reading.{reading}
+use Rattle.certifying.specs.declared.certify.Certified.{Certified}
 use Rattle.certifying.specs.declared.certify.Thresholds.{Thresholds}
-use Rattle.certifying.specs.Certify.{certifying}
-use Rattle.lookahead_c.specs.Certifying.{CertifySeen, SeenDistance, certifySeen}
+use Rattle.certifying.specs.Certify.{certifiedRefusal, certifying}
+use Rattle.lookahead_c.specs.Certifying.{CertifySeen, SeenDistance, certifyFound, certifySeen}
 use Rattle.lookahead_c.proofs.Laws.Certifying.{seen-distance}
 use Rattle.lookahead_c.proofs.certify.lookahead_certify.Statement.{statement}
 use Rattle.lookahead_c.proofs.certify.lookahead_certify.Tie as tie
-
--- both clauses, by what the caller sees
-clauses : (file a : List ℕ) (before : Thresholds) {after : CertifySeen} → after ≡ certifySeen (certifying file a) before
-    → (after ≡ certifySeen (certifying file a) before) × SeenDistance (reading file) a after
-clauses file a before e = (e, subst (SeenDistance (reading file) a) (sym e) (seen-distance file a before))
 
 certify-requires : tie.Need-certify-requires
 certify-requires c κs = search needs
@@ -25,27 +19,39 @@ certify-requires c κs = search needs
 enum-known-certified : tie.Need-enum-known-certified
 enum-known-certified c = search needs
 
-enum-known-certified-2 : tie.Need-enum-known-certified-2
-enum-known-certified-2 c = search needs
+enum-told : tie.Need-enum-told
+enum-told c = search needs
+
+refusal-requires : tie.Need-refusal-requires
+refusal-requires c κs = search needs
+
+-- both thresholds as they are lent
+abbrev numbers : tie.Start → Thresholds
+numbers s = record { lower = s .args .lower .now; upper = s .args .upper .now }
+
+-- both clauses, where the refusal and the numbers are those of the library's answer
+clauses : (c : tie.After-certify) {answer : Certified} {refusal : Refusal} {found : Thresholds} → c .certify .result ≡ answer → refusal ≡ certifiedRefusal answer
+    → let s = c .before .before .before in found ≡ certifyFound answer (numbers s)
+    → let after : CertifySeen = record { refusal = refusal; found = found } in
+    (after ≡ certifySeen (certifying (s .args .file .now) (s .args .multipliers .now)) (numbers s)) × SeenDistance (reading (s .args .file .now)) (s .args .multipliers .now) after
+clauses c told refusal found =
+    let s = c .before .before .before in
+    let seen = (λ k. record { refusal = refusal k; found = found k }) ∙ ap (λ x. certifySeen x (numbers s)) (sym told ∙ c .certify .ensures .0) in
+    (seen, subst (SeenDistance (reading (s .args .file .now)) (s .args .multipliers .now)) (sym seen) (seen-distance (s .args .file .now) (s .args .multipliers .now) (numbers s)))
 
 returns : tie.Need-returns
 returns c =
-    let lent = c .before .before .before .before .before .before .args in
-    let refused = sym (c .before .certified .given .1) ∙ c .before .before .before .certify .ensures .0 in
-    clauses (lent .file .now) (lent .multipliers .now) (record { lower = lent .lower .now; upper = lent .upper .now }) (ap (λ x. certifySeen x (record { lower = lent .lower .now; upper = lent .upper .now })) refused)
+    let told = c .before .enum-told .given .1 in
+    clauses (c .before .before .before) told (c .refusal .ensures ∙ ap certifiedRefusal told) refl
 
 returns-2 : tie.Need-returns-2
 returns-2 c =
-    let lent = c .before .before .before .before .before .before .before .before .args in
-    let found = sym (c .before .before .before .certified2 .given .1) ∙ c .before .before .before .before .before .certify .ensures .0 in
-    let thresholds = c .before .before .before .certified2 .given .0 .0 in
-    let lower : toZ w64 (ofZ w64 (thresholds .lower)) ≡ thresholds .lower = search needs in
-    let upper : toZ w64 (ofZ w64 (thresholds .upper)) ≡ thresholds .upper = search needs in
-    clauses (lent .file .now) (lent .multipliers .now) (record { lower = lent .lower .now; upper = lent .upper .now })
-    ((λ k. record { refusal = noRefusal; found = record { lower = lower k; upper = upper k } })
-    ∙ ap (λ x. certifySeen x (record { lower = lent .lower .now; upper = lent .upper .now })) found)
+    let found = c .before .before .before .certified .given in
+    let lower : toZ w64 (ofZ w64 (found .0 .0 .lower)) ≡ found .0 .0 .lower = search needs in
+    let upper : toZ w64 (ofZ w64 (found .0 .0 .upper)) ≡ found .0 .0 .upper = search needs in
+    clauses (c .before .before .before .before .before) (found .1) refl (λ k. record { lower = lower k; upper = upper k })
 
 pub lookahead-certify-spec : {M : Type 1} → statement M
 lookahead-certify-spec =
     tie.close
-    (tie.spec certify-requires enum-known-certified enum-known-certified-2 returns returns-2)
+    (tie.spec certify-requires enum-known-certified enum-told refusal-requires returns returns-2)
