@@ -1,5 +1,9 @@
 -- The refusals with which each call can end, as include/lookahead.h names them. That no call ends with another, nor with the number 0, so
 -- that by the number alone a caller in C tells a refusal from an answer, is in proofs/Laws/Refusals.antt. Assumes nothing.
+use mathlib.Core.Path.{_≡_}
+use mathlib.Core.Logic.{_≢_, _⊎_}
+use Prim.Native.Nat.{_≤_}
+use Rattle.training_file.specs.declared.refusal.Refusal.{Refusal}
 use Rattle.training_file.specs.Refusal.{Within}
 use Rattle.reading.specs.declared.reader.FileAnswer.{FileAnswer}
 use Rattle.reading.specs.declared.reader.FileAnswer.the-variants as read
@@ -29,3 +33,8 @@ CertifyRefusals (certified.Found thresholds) = Unit {0}
 abbrev pub ClassifyRefusals : Classified → Type 0
 ClassifyRefusals (classified.Refused why) = Within 9 why
 ClassifyRefusals (classified.Is class) = Unit {0}
+
+-- the record of what a call answers: after 3 and 16 one of 1 to 256, otherwise 0, also where nothing is refused
+pub record RecordAnswered (answer : Refusal) : Type 0 where
+  pub at-fault : (answer .number ≡ 3) ⊎ (answer .number ≡ 16) → (1 ≤ answer .at) × (answer .at ≤ 256)
+  pub otherwise : answer .number ≢ 3 → answer .number ≢ 16 → answer .at ≡ 0

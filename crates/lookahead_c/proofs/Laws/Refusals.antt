@@ -1,5 +1,6 @@
--- Each call ends with the refusals named for it, and no others. Assumes nothing.
+-- Each call ends with the refusals named for it, and no others; 3 and 16 alone carry a record, and it is one of 1 to 256. Assumes nothing.
 use mathlib.Core.Path.{_≡_, refl}
+use mathlib.Core.Logic.{⊎-elim}
 use mathlib.Core.Bool.{_&&_}
 use mathlib.Core.List.{List}
 use Prim.Native.Nat.{ℕ, _≤_}
@@ -10,20 +11,34 @@ use lib.ListN.{length}
 use Rattle.integers.proofs.Laws.Test.{chose-either}
 use Rattle.training_file.specs.declared.parameters.Parameters.{Parameters}
 use Rattle.training_file.specs.declared.item.Item.{Item}
-use Rattle.training_file.specs.Refusal.{Within, alone, refusal}
+use Rattle.training_file.specs.declared.refusal.Refusal.{Refusal}
+use Rattle.training_file.specs.Refusal.{Within, alone, at-fault, noRefusal, refusal}
 use Rattle.training_file.proofs.Laws.Refusal.{within-more}
+use Rattle.reading.specs.declared.reader.FileAnswer.{FileAnswer}
+use Rattle.reading.specs.declared.reader.FileAnswer.the-variants as read
 use Rattle.reading.specs.Reading.{Reading, refused, accepted, reading}
-use Rattle.reading.specs.Calls.{fileAnswer}
+use Rattle.reading.specs.Calls.{fileAnswer, fileRefusal}
 use Rattle.reading.proofs.Laws.Reading.Fault.{refused-within}
 use Rattle.dual_problem.specs.Problem.{Problem, problem}
 use Rattle.dual_problem.specs.Items.{at}
+use Rattle.certifying.specs.declared.certify.Certified.{Certified}
+use Rattle.certifying.specs.declared.certify.Certified.the-variants as certified
+use Rattle.certifying.specs.declared.certify.Thresholds.{Thresholds}
 use Rattle.certifying.specs.declared.multipliers.Judgement.{Judgement}
 use Rattle.certifying.specs.declared.multipliers.Judgement.the-variants as judged
 use Rattle.certifying.specs.Multipliers.{balance, isZero, judgement, withinCeilings}
-use Rattle.certifying.specs.Certify.{certifying, certifyJudged, certifyRead}
-use Rattle.training.specs.Train.{TrainingLeft, trainFile, trainRead}
-use Rattle.classifying.specs.Classify.{classifying, classifyItems, classifyJudged, classifyRead, wordAllowed}
-use Rattle.lookahead_c.specs.Refusals.{CertifyRefusals, ClassifyRefusals, ReadRefusals, TrainRefusals}
+use Rattle.certifying.specs.Certify.{certifiedRefusal, certifying, certifyJudged, certifyRead}
+use Rattle.training.specs.declared.train.Training.{Training}
+use Rattle.training.specs.declared.train.Training.the-variants as training
+use Rattle.training.specs.Train.{TrainingLeft, trainFile, trainRead, trainingRefusal}
+use Rattle.classifying.specs.declared.classify.Classified.{Classified}
+use Rattle.classifying.specs.declared.classify.Classified.the-variants as classified
+use Rattle.classifying.specs.Classify.{classifiedRefusal, classifying, classifyItems, classifyJudged, classifyRead, wordAllowed}
+use Rattle.lookahead_c.specs.Reading.{ReadNumbers, readSeen}
+use Rattle.lookahead_c.specs.Training.{TrainNumbers, trainSeen}
+use Rattle.lookahead_c.specs.Certifying.{certifySeen}
+use Rattle.lookahead_c.specs.Classifying.{classifySeen}
+use Rattle.lookahead_c.specs.Refusals.{CertifyRefusals, ClassifyRefusals, ReadRefusals, RecordAnswered, TrainRefusals}
 
 -- ---- reading: 1 to 5 and 16
 pub read-refusals : (file : List ℕ) → ReadRefusals (fileAnswer (reading file))
@@ -86,3 +101,35 @@ classify-refusals file a word = by (reading file) refl where
   by : (x : Reading) → reading file ≡ x → ClassifyRefusals (classifyRead x a word)
   by (refused why) e = within-more 5 9 why (omega arith) (refused-within file why e)
   by (accepted p order items) e = classify-items p items a word
+
+-- ---- the record that a caller sees
+within-record : (most : ℕ) (why : Refusal) → most ≤ 9 → Within most why → RecordAnswered why
+within-record most why few (alone l u d e) = record { at-fault = ⊎-elim (λ q. absurd (d q)) (λ q. absurd (omega arith)); otherwise = λ not-3 not-16. e }
+within-record most why few (at-fault n l u) = record { at-fault = λ q. (l, u); otherwise = λ not-3 not-16. absurd (⊎-elim not-3 not-16 n) }
+
+none-record : RecordAnswered noRefusal
+none-record = record { at-fault = ⊎-elim (λ q. absurd (omega arith)) (λ q. absurd (omega arith)); otherwise = λ not-3 not-16. refl }
+
+pub read-record : (file table : List ℕ) (before : ReadNumbers) → RecordAnswered (readSeen (reading file) table before .refusal)
+read-record file table before = by (fileAnswer (reading file)) (read-refusals file) where
+  by : (x : FileAnswer) → ReadRefusals x → RecordAnswered (fileRefusal x)
+  by (read.Refused why) n = within-record 5 why (omega arith) n
+  by (read.Accepted p count) n = none-record
+
+pub train-record : (file a : List ℕ) (g : List ℤ) (before : TrainNumbers) → RecordAnswered (trainSeen (trainFile file a g) before .refusal)
+train-record file a g before = by (trainFile file a g .answer) (train-refusals file a g) where
+  by : (x : Training) → TrainRefusals x → RecordAnswered (trainingRefusal x)
+  by (training.Refused why) n = within-record 6 why (omega arith) n
+  by (training.Ended result) n = none-record
+
+pub certify-record : (file a : List ℕ) (before : Thresholds) → RecordAnswered (certifySeen (certifying file a) before .refusal)
+certify-record file a before = by (certifying file a) (certify-refusals file a) where
+  by : (x : Certified) → CertifyRefusals x → RecordAnswered (certifiedRefusal x)
+  by (certified.Refused why) n = within-record 8 why (omega arith) n
+  by (certified.Found thresholds) n = none-record
+
+pub classify-record : (file a : List ℕ) (word : List ℤ) (before : ℕ) → RecordAnswered (classifySeen (classifying file a word) before .refusal)
+classify-record file a word before = by (classifying file a word) (classify-refusals file a word) where
+  by : (x : Classified) → ClassifyRefusals x → RecordAnswered (classifiedRefusal x)
+  by (classified.Refused why) n = within-record 9 why (omega arith) n
+  by (classified.Is class) n = none-record
