@@ -4,7 +4,6 @@ use borrow.Author.Needs.{needs}
 use Rattle.training_file.specs.declared.item.Label.{Label}
 use Rattle.training_file.specs.declared.item.Label.the-variants.{LookedUp, PassedOver}
 use Rattle.totals.specs.declared.totals.Shown.{Shown}
-use Rattle.totals.specs.declared.totals.Totals.{Totals}
 use Rattle.totals.specs.Totals.{oneAboveZero, share, totalsOfLine}
 use Rattle.totals.proofs.totals.Totals.of_line.Statement.{statement}
 use Rattle.totals.proofs.totals.Totals.of_line.Tie as tie
