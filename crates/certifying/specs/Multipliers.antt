@@ -1,10 +1,11 @@
 -- Document 01, refusals 6 to 8: judging multipliers against a problem. Assumes nothing.
-use mathlib.Core.Bool.{Bool, false, cond}
+use mathlib.Core.Bool.{Bool, cond}
 use mathlib.Core.List.{List}
 use Prim.Native.Nat.{ℕ}
 use lib.Dec.{leb, eqb}
-use lib.IntN.{ℤ, pos, negsuc, _*ℤ_}
+use lib.IntN.{ℤ, pos, _*ℤ_}
 use lib.ListN.{length}
+use Rattle.integers.specs.Zero.{isZero}
 use Rattle.integers.specs.Places.{all}
 use Rattle.integers.specs.Sum.{sum}
 use Rattle.training_file.specs.declared.refusal.Refusal.{Refusal}
@@ -17,10 +18,6 @@ use Rattle.certifying.specs.declared.multipliers.Judgement.the-variants.
 -- the sum of a_i × y_i
 abbrev pub balance : Problem → (ℕ → ℕ) → ℤ
 balance P a = sum (P .count) (λ i. pos (a i) *ℤ y P i)
-
-abbrev pub isZero : ℤ → Bool
-isZero (pos n) = eqb n 0
-isZero (negsuc n) = false
 
 -- whether none of the first n multipliers is over "the item's own ceiling" (document 02, request (f))
 abbrev pub withinCeilings : ℕ → Problem → (ℕ → ℕ) → Bool

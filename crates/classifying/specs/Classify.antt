@@ -13,7 +13,6 @@ use Rattle.training_file.specs.declared.parameters.Parameters.{Parameters}
 use Rattle.training_file.specs.declared.item.Item.{Item}
 use Rattle.training_file.specs.declared.refusal.Refusal.{Refusal}
 use Rattle.training_file.specs.Refusal.{noRefusal, refusal}
-use Rattle.training_file.specs.Layout.{featureCount}
 use Rattle.training_file.specs.Item.{featureAllowed}
 use Rattle.reading.specs.Calls.{itemIn}
 use Rattle.reading.specs.Reading.{Reading, refused, accepted, reading}
@@ -93,9 +92,8 @@ UndecidedUnlessRefused (Is class) = class ≡ Undecided
 abbrev pub SameFeatures : List ℤ → List ℤ → Type 0
 SameFeatures xs zs = (q : ℕ) → getD xs q (pos 0) ≡ getD zs q (pos 0)
 
--- what a word's score asks: multipliers that were judged, thresholds no larger than a G can be, and a word that an item has room for
-pub record Scorable (file order : List ℕ) (n : ℕ) (p : Parameters) (a : List ℕ) (thresholds : Thresholds) (word : List ℤ) : Type 0 where
+-- what a word's score asks: multipliers that were judged, and thresholds no larger than a G can be
+pub record Scorable (file order : List ℕ) (n : ℕ) (p : Parameters) (a : List ℕ) (thresholds : Thresholds) : Type 0 where
   pub listed : MultipliersListed file order n p a
   pub lower-size : natAbs (thresholds .lower) ≤ gradientMost
   pub upper-size : natAbs (thresholds .upper) ≤ gradientMost
-  pub short : length word ≤ featureCount

@@ -6,7 +6,6 @@ ghost use Rattle.reading.specs.Reading.{reading};
 ghost use Rattle.reading.specs.Calls.{itemsIn};
 ghost use Rattle.dual_problem.specs.Items.{Listed, at};
 ghost use Rattle.classifying.specs.Classify.{Scorable, classOf, classifiedRefusal, classifyItems, classifying, scoreWith};
-use super::word::word_allowed;
 use super::word::word_item;
 use certifying::certify::Thresholds;
 use certifying::certify::find_thresholds;
@@ -66,14 +65,13 @@ fn find_score(
     parameters: Parameters,
     multipliers: &[u32],
     thresholds: Thresholds,
-    word: &[i8],
+    word: Item,
 ) -> i64
-    requires { ⌜ Scorable (now file) (now order) count parameters (now multipliers) thresholds (now word) ⌝ }
+    requires { ⌜ Scorable (now file) (now order) count parameters (now multipliers) thresholds ⌝ }
     ensures { λ r.
-        ⌜ r ≡ scoreWith parameters (itemsIn (reading (now (file .entry)))) (at (now (multipliers .entry))) thresholds (now (word .entry)) ⌝ }
+        ⌜ r ≡ scoreWith parameters (itemsIn (reading (now (file .entry)))) (at (now (multipliers .entry))) thresholds (word .features) ⌝ }
 {
-    let x = word_item(word);
-    let sum = weighed_sum(file, order, count, parameters, multipliers, x);
+    let sum = weighed_sum(file, order, count, parameters, multipliers, word);
     2 * sum - (thresholds.lower + thresholds.upper)
 }
 
@@ -97,7 +95,8 @@ fn classify_read(
     let Judgement::Feasible = judgement else {
         return Classified::Refused(judgement.refusal());
     };
-    if !word_allowed(word) {
+    let answer = word_item(word);
+    if !answer.allowed {
         return Classified::Refused(Refusal::WORD_FEATURE);
     }
     let thresholds = find_thresholds(file, order, count, parameters, multipliers);
@@ -108,7 +107,7 @@ fn classify_read(
         parameters,
         multipliers,
         thresholds,
-        word,
+        answer.item,
     );
     Classified::Is(Class::of_score(score))
 }

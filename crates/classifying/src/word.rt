@@ -6,26 +6,14 @@ ghost use lib.ListN.{length};
 ghost use Rattle.training_file.specs.Layout.{featureCount};
 ghost use Rattle.classifying.specs.Classify.{SameFeatures, wordAllowed};
 use training_file::item::Item;
+use training_file::item::ItemAnswer;
 use training_file::item::Label;
 
-// Whether each feature of a word is within the range of an item's.
-pub fn word_allowed(word: &[i8]) -> bool
-    ensures { λ r. ⌜ r ≡ wordAllowed (now (word .entry)) ⌝ }
-{
-    let mut i = 0;
-    while i < word.len() {
-        if !Item::allows(word[i]) {
-            return false;
-        }
-        i += 1;
-    }
-    true
-}
-
 // A word as an item, which the kernels compare with the file's: features past the word's are 0. No kernel looks at the label.
-pub fn word_item(word: &[i8]) -> Item
+pub fn word_item(word: &[i8]) -> ItemAnswer
     requires { ⌜ length (now word) ≤ featureCount ⌝ }
-    ensures { λ r. ⌜ SameFeatures (r .features) (now (word .entry)) ⌝ }
+    ensures allowed { λ r. ⌜ r .allowed ≡ wordAllowed (now (word .entry)) ⌝ }
+    ensures features { λ r. ⌜ SameFeatures (r .item .features) (now (word .entry)) ⌝ }
 {
     let mut features = [0i8; Item::FEATURES];
     let mut i = 0;
@@ -33,8 +21,5 @@ pub fn word_item(word: &[i8]) -> Item
         features[i] = word[i];
         i += 1;
     }
-    Item {
-        label: Label::PassedOver,
-        features,
-    }
+    Item::new(Label::PASSED_OVER, features, word.len())
 }

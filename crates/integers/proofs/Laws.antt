@@ -5,6 +5,7 @@ pub mod Ring
 pub mod Solver
 pub mod Linear
 pub mod Order
+pub mod Zero
 pub mod Sum
 pub mod Bounds
 pub mod Places

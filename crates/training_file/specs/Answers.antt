@@ -1,19 +1,21 @@
--- What the judging constructors and the judging of a record answer: the value, or the refusal. `..Refusal` takes the refusal out of an
--- answer. Assumes nothing.
+-- What the judging constructors and the judging of a record answer: the value, or the refusal; an item, with whether it is allowed.
+-- `..Refusal` takes the refusal out of an answer. Assumes nothing.
 use mathlib.Core.Bool.{cond}
 use mathlib.Core.List.{List}
 use Prim.Native.Nat.{ℕ}
+use lib.IntN.{ℤ}
 use Rattle.training_file.specs.declared.refusal.Refusal.{Refusal}
 use Rattle.training_file.specs.declared.parameters.KernelAnswer.{KernelAnswer}
 use Rattle.training_file.specs.declared.parameters.KernelAnswer.the-variants as kernel
 use Rattle.training_file.specs.declared.parameters.Parameters.{Parameters}
 use Rattle.training_file.specs.declared.parameters.ParametersAnswer.{ParametersAnswer}
 use Rattle.training_file.specs.declared.parameters.ParametersAnswer.the-variants as parameters
+use Rattle.training_file.specs.declared.item.ItemAnswer.{ItemAnswer}
 use Rattle.training_file.specs.declared.item.LabelAnswer.{LabelAnswer}
 use Rattle.training_file.specs.declared.item.LabelAnswer.the-variants as label
 use Rattle.training_file.specs.Refusal.{noRefusal, refusal}
 use Rattle.training_file.specs.Parameters.{kernelAllowed, kernelOfByte, parametersAllowed}
-use Rattle.training_file.specs.Item.{labelAllowed, labelOfByte}
+use Rattle.training_file.specs.Item.{itemAllowed, itemOf}
 use Rattle.training_file.specs.Record.{labelAt, recordAllowed}
 
 -- ---- refusal 2: "a header field beyond its range"
@@ -32,10 +34,12 @@ abbrev pub parametersRefusal : ParametersAnswer → Refusal
 parametersRefusal (parameters.Refused why) = why
 parametersRefusal (parameters.Allowed p) = noRefusal
 
--- ---- refusal 4: "on the chain, a wrong label, .."
+-- ---- an item, of a label's byte and sixteen features of which the first d are in use
 
-abbrev pub labelAnswer : ℕ → LabelAnswer
-labelAnswer byte = cond (labelAllowed byte) (label.Known (labelOfByte byte)) (label.Refused (refusal 4))
+abbrev pub itemAnswer : (d byte : ℕ) → List ℤ → ItemAnswer
+itemAnswer d byte features = record { allowed = itemAllowed d byte features; item = itemOf byte features }
+
+-- ---- refusal 4: "on the chain, a wrong label, .."
 
 abbrev pub labelRefusal : LabelAnswer → Refusal
 labelRefusal (label.Refused why) = why

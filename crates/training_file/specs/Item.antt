@@ -1,18 +1,20 @@
 -- An item and its ranges (document 01, "The training file": "An item is its label with sixteen signed features"). Assumes nothing.
 use mathlib.Core.Bool.{Bool, _&&_, cond}
-use mathlib.Core.List.{List, map}
-use Prim.Native.Nat.{ℕ}
-use lib.Dec.{ltb, eqb}
+use mathlib.Core.List.{List}
+use Prim.Native.Nat.{ℕ, _+_, _-_}
+use lib.Dec.{eqb}
 use lib.IntN.{ℤ, pos, negℤ}
+use lib.ListN.{getD}
 use lib.Signed.{leZ}
+use Rattle.integers.specs.Zero.{isZero}
 use Rattle.integers.specs.Places.{all}
 use Rattle.training_file.specs.declared.item.Label.{Label}
 use Rattle.training_file.specs.declared.item.Label.the-variants.{LookedUp, PassedOver}
 use Rattle.training_file.specs.declared.item.Item.{Item}
-use Rattle.training_file.specs.Layout.{byteAt, featureCount, signedByte}
+use Rattle.training_file.specs.Layout.{featureCount}
 use Rattle.training_file.specs.Parameters.{within}
 
--- "the label (1 looked up, y = +1; 2 passed over, y = −1)". Only an allowed byte is asked for its label.
+-- "the label (1 looked up, y = +1; 2 passed over, y = −1)". No rule rests on the label of a byte that isn't allowed.
 abbrev pub labelAllowed : ℕ → Bool
 labelAllowed byte = within 1 2 byte
 
@@ -36,21 +38,28 @@ same LookedUp PassedOver = 0
 same PassedOver LookedUp = 0
 same PassedOver PassedOver = 1
 
--- "each a signed byte from −127 to 127"
+-- "sixteen features, each a signed byte from −127 to 127"
 abbrev pub featureMost : ℕ
 featureMost = 127
 
 abbrev pub featureAllowed : ℤ → Bool
 featureAllowed feature = leZ (negℤ (pos featureMost)) feature && leZ feature (pos featureMost)
 
--- a feature byte, of a place in use or past those: "Features past d are zero", which is within the range
-abbrev pub featureByteAllowed : Bool → ℕ → Bool
-featureByteAllowed inUse byte = cond inUse (featureAllowed (signedByte byte)) (eqb byte 0)
+abbrev pub inRange : List ℤ → Bool
+inRange features = all featureCount (λ i. featureAllowed (getD features i (pos 0)))
 
--- the sixteen feature bytes of a record, the first d in use
-unfoldable pub featuresAllowed : ℕ → List ℕ → Bool
-featuresAllowed d bytes = all featureCount (λ i. featureByteAllowed (ltb i d) (byteAt bytes i))
+-- "Features past d are zero."
+abbrev pub zeroPast : ℕ → List ℤ → Bool
+zeroPast d features = all (featureCount - d) (λ i. isZero (getD features (d + i) (pos 0)))
 
--- the item of a label and its sixteen feature bytes
-abbrev pub itemOf : Label → List ℕ → Item
-itemOf label bytes = record { label = label; features = map signedByte bytes }
+-- sixteen features, the first d in use
+unfoldable pub featuresAllowed : ℕ → List ℤ → Bool
+featuresAllowed d features = inRange features && zeroPast d features
+
+-- a label's byte and sixteen features, the first d in use
+abbrev pub itemAllowed : (d byte : ℕ) → List ℤ → Bool
+itemAllowed d byte features = labelAllowed byte && featuresAllowed d features
+
+-- the item of a label's byte and its features
+abbrev pub itemOf : ℕ → List ℤ → Item
+itemOf byte features = record { label = labelOfByte byte; features = features }

@@ -1,13 +1,10 @@
 // An item: its label with sixteen signed features. The ranges of both stand here alone.
-// What `allows_all` and `of_judged` require is met by `record`.
 
 ghost use mathlib.Core.Path.{_≡_};
-ghost use lib.ListN.{length};
 ghost use Rattle.training_file.specs.declared.item.Label.the-variants.{LookedUp};
 ghost use Rattle.training_file.specs.Item.{byteOfLabel, labelOfByte, opposite as oppositeOf, same};
-ghost use Rattle.training_file.specs.Item.{featureAllowed, featureByteAllowed, featuresAllowed, itemOf};
-ghost use Rattle.training_file.specs.Answers.{labelAnswer, labelRefusal};
-use super::bytes::signed_byte;
+ghost use Rattle.training_file.specs.Item.{featureAllowed, featuresAllowed, labelAllowed, zeroPast};
+ghost use Rattle.training_file.specs.Answers.{itemAnswer, labelRefusal};
 use super::range::within;
 use super::refusal::Refusal;
 
@@ -39,7 +36,18 @@ impl Label {
 
     pub const PASSED_OVER: u8 = 2;
 
-    // The label of a record that was judged: a byte that is not looked up is passed over.
+    // Whether a byte is a label's.
+    fn allows(byte: u8) -> bool
+        ensures { λ r. ⌜ r ≡ labelAllowed byte ⌝ }
+    {
+        within(
+            Label::LOOKED_UP as u64,
+            Label::PASSED_OVER as u64,
+            byte as u64,
+        )
+    }
+
+    // The label of a byte that was judged: one that is not looked up is passed over.
     pub fn of_judged(byte: u8) -> Label
         ensures { λ r. ⌜ r ≡ labelOfByte byte ⌝ }
     {
@@ -79,26 +87,19 @@ impl Label {
             Label::PassedOver => 0,
         }
     }
-
-    // The label that a record names.
-    pub fn from_byte(byte: u8) -> LabelAnswer
-        ensures { λ r. ⌜ r ≡ labelAnswer byte ⌝ }
-    {
-        if !within(
-            Label::LOOKED_UP as u64,
-            Label::PASSED_OVER as u64,
-            byte as u64,
-        ) {
-            return LabelAnswer::Refused(Refusal::RECORD);
-        }
-        LabelAnswer::Known(Label::of_judged(byte))
-    }
 }
 
 // The features come first, so that a copy of an item moves all sixteen as one block and what is read of them next need not wait for two.
 pub struct Item {
     pub features: [i8; Item::FEATURES],
     pub label: Label,
+}
+
+// What `Item::new` answers: whether the label's byte and the features are allowed, and the item that they make. An enum that holds an array
+// isn't covered.
+pub struct ItemAnswer {
+    pub allowed: bool,
+    pub item: Item,
 }
 
 impl Item {
@@ -112,7 +113,7 @@ impl Item {
     pub const MAX_FEATURE: i8 = 127;
 
     // Whether a feature is within its range.
-    pub fn allows(feature: i8) -> bool
+    fn allows(feature: i8) -> bool
         ensures { λ r. ⌜ r ≡ featureAllowed feature ⌝ }
     {
         if Item::MIN_FEATURE <= feature {
@@ -122,25 +123,13 @@ impl Item {
         }
     }
 
-    // Whether a byte of a record is a feature: of a place in use, or past those.
-    fn allows_byte(byte: u8, in_use: bool) -> bool
-        ensures { λ r. ⌜ r ≡ featureByteAllowed «in_use» byte ⌝ }
+    // Whether the features past the first `used` are 0.
+    fn zero_past(features: [i8; Item::FEATURES], used: usize) -> bool
+        ensures { λ r. ⌜ r ≡ zeroPast used features ⌝ }
     {
-        if in_use {
-            Item::allows(signed_byte(byte))
-        } else {
-            byte == 0
-        }
-    }
-
-    // Whether sixteen bytes are features of an item of which the first `used` are in use.
-    pub fn allows_all(part: &[u8], used: usize) -> bool
-        requires { do ⌜ length (now part) ≡ (← ⟦Item::FEATURES⟧) ⌝ }
-        ensures { λ r. ⌜ r ≡ featuresAllowed used (now (part .entry)) ⌝ }
-    {
-        let mut i = 0;
+        let mut i = used;
         while i < Item::FEATURES {
-            if !Item::allows_byte(part[i], i < used) {
+            if features[i] != 0 {
                 return false;
             }
             i += 1;
@@ -148,17 +137,33 @@ impl Item {
         true
     }
 
-    // The item of a label and sixteen bytes that were judged.
-    pub fn of_judged(label: Label, part: &[u8]) -> Item
-        requires { do ⌜ length (now part) ≡ (← ⟦Item::FEATURES⟧) ⌝ }
-        ensures { λ r. ⌜ r ≡ itemOf label (now (part .entry)) ⌝ }
+    // Whether each feature is within its range, and those past the first `used` are 0.
+    fn allows_all(features: [i8; Item::FEATURES], used: usize) -> bool
+        ensures { λ r. ⌜ r ≡ featuresAllowed used features ⌝ }
     {
-        let mut features = [0i8; Item::FEATURES];
+        if !Item::zero_past(features, used) {
+            return false;
+        }
         let mut i = 0;
         while i < Item::FEATURES {
-            features[i] = signed_byte(part[i]);
+            if !Item::allows(features[i]) {
+                return false;
+            }
             i += 1;
         }
-        Item { label, features }
+        true
+    }
+
+    // The item of a label's byte and features of which the first `used` are in use, judged.
+    pub fn new(label: u8, features: [i8; Item::FEATURES], used: usize) -> ItemAnswer
+        ensures { λ r. ⌜ r ≡ itemAnswer used label features ⌝ }
+    {
+        ItemAnswer {
+            allowed: Label::allows(label) & Item::allows_all(features, used),
+            item: Item {
+                label: Label::of_judged(label),
+                features,
+            },
+        }
     }
 }

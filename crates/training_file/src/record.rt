@@ -3,11 +3,13 @@
 
 ghost use mathlib.Core.Path.{_≡_};
 ghost use Prim.Native.Nat.{_+_, _*_, _^_, _≤_, _<_};
-ghost use Rattle.training_file.specs.Layout.{featureBytes, nextOf, recordStart};
-ghost use Rattle.training_file.specs.Record.{Stored, itemAt, labelAt};
-ghost use Rattle.training_file.specs.Answers.{recordAnswer};
+ghost use Rattle.training_file.specs.Layout.{featureBytes, labelByte, nextOf, recordStart};
+ghost use Rattle.training_file.specs.Record.{Stored, featuresAt, itemAt, labelAt};
+ghost use Rattle.training_file.specs.Answers.{itemAnswer, recordAnswer};
+use super::bytes::signed_byte;
 use super::bytes::u16_at;
 use super::item::Item;
+use super::item::ItemAnswer;
 use super::item::Label;
 use super::item::LabelAnswer;
 use super::layout;
@@ -39,19 +41,45 @@ pub fn feature_part(file: &[u8], number: usize) -> &[u8]
     &file[from..to]
 }
 
+// The record's sixteen features.
+fn features(file: &[u8], number: usize) -> [i8; Item::FEATURES]
+    requires { ⌜ Stored (now file) number ⌝ }
+    ensures { λ r. ⌜ r ≡ featuresAt (now (file .entry)) number ⌝ }
+{
+    let part = feature_part(file, number);
+    let mut features = [0i8; Item::FEATURES];
+    let mut i = 0;
+    while i < Item::FEATURES {
+        features[i] = signed_byte(part[i]);
+        i += 1;
+    }
+    features
+}
+
+// The record's label and features as an item, judged with the first `used` features in use.
+fn read_item(file: &[u8], number: usize, used: usize) -> ItemAnswer
+    requires { ⌜ Stored (now file) number ⌝ }
+    ensures { λ r. ⌜ r ≡ itemAnswer used (labelByte (now (file .entry)) number) (featuresAt (now (file .entry)) number) ⌝ }
+{
+    let label = file[start(number) + layout::LABEL];
+    Item::new(label, features(file, number), used)
+}
+
 // The label of a record on the chain whose bytes are all allowed.
 pub fn judge(file: &[u8], number: usize, used: usize) -> LabelAnswer
     requires { ⌜ Stored (now file) number ⌝ }
     ensures { λ r. ⌜ r ≡ recordAnswer used (now (file .entry)) number ⌝ }
 {
-    let at = start(number);
-    if file[at + layout::ZERO] != 0 {
+    if file[start(number) + layout::ZERO] != 0 {
         return LabelAnswer::Refused(Refusal::RECORD);
     }
-    if !Item::allows_all(feature_part(file, number), used) {
+    let answer = read_item(file, number, used);
+    if !answer.allowed {
         return LabelAnswer::Refused(Refusal::RECORD);
     }
-    Label::from_byte(file[at + layout::LABEL])
+    let item = answer.item;
+    let label = item.label;
+    LabelAnswer::Known(label)
 }
 
 // The label of a record that was judged.
@@ -62,10 +90,10 @@ pub fn fetch_label(file: &[u8], number: usize) -> Label
     Label::of_judged(file[start(number) + layout::LABEL])
 }
 
-// The item of a record that was judged.
+// The item of a record that was judged. Nobody asks here whether it is allowed, and the compiler leaves that out.
 pub fn fetch(file: &[u8], number: usize) -> Item
     requires { ⌜ Stored (now file) number ⌝ }
     ensures { λ r. ⌜ r ≡ itemAt (now (file .entry)) number ⌝ }
 {
-    Item::of_judged(fetch_label(file, number), feature_part(file, number))
+    read_item(file, number, Item::FEATURES).item
 }

@@ -6,30 +6,17 @@ use Prim.Native.Nat.{ℕ}
 use native.Mathlib.Omega.{arith}
 use borrow.Author.Tests.{eq-eqb, eqb-true, leb-true, le-leb}
 use lib.Dec.{leb, eqb}
-use lib.IntN.{ℤ, pos, negsuc}
 use lib.ListN.{length}
+use Rattle.integers.specs.Zero.{isZero}
 use Rattle.integers.specs.Places.{all}
+use Rattle.integers.proofs.Laws.Zero.{is-zero-true}
 use Rattle.integers.proofs.Laws.Places.{all-holds, all-true}
 use Rattle.training_file.specs.Refusal.{refusal}
 use Rattle.dual_problem.specs.Problem.{Problem, Feasible}
 use Rattle.dual_problem.specs.Items.{at}
 use Rattle.certifying.specs.declared.multipliers.Judgement.{Judgement}
 use Rattle.certifying.specs.declared.multipliers.Judgement.the-variants as judged
-use Rattle.certifying.specs.Multipliers.{balance, isZero, judgement}
-
-pub is-zero-true : (z : ℤ) → isZero z ≡ true → z ≡ pos 0
-is-zero-true (pos n) e = ap pos (eqb-true n 0 e)
-is-zero-true (negsuc n) e = let q : _≡_ {A = ℕ} 0 1 = cc in absurd (omega arith)
-
-pub zero-is-zero : {z : ℤ} → z ≡ pos 0 → isZero z ≡ true
-zero-is-zero e = ap isZero e
-
-pub nonzero-is-zero : (z : ℤ) → (z ≡ pos 0 → ⊥) → isZero z ≡ false
-nonzero-is-zero z h = by (isZero z) refl
-  where
-    by : (t : Bool) → isZero z ≡ t → isZero z ≡ false
-    by true e = absurd (h (is-zero-true z e))
-    by false e = e
+use Rattle.certifying.specs.Multipliers.{balance, judgement}
 
 -- what the three tests answer decides
 abbrev pub verdict : Bool → Bool → Bool → Judgement
@@ -58,4 +45,4 @@ module _ (P : Problem) (a : List ℕ) where
 
   pub feasible-judgement : length a ≡ P .count → Feasible P (at a) → judgement P a ≡ judged.Feasible
   feasible-judgement e h =
-      judgement-is (eq-eqb (length a) (P .count) e) (all-true (λ i. leb (at a i) (P .ceiling i)) (P .count) (λ i l. le-leb (at a i) (P .ceiling i) (h .within i l))) (zero-is-zero (h .balanced))
+      judgement-is (eq-eqb (length a) (P .count) e) (all-true (λ i. leb (at a i) (P .ceiling i)) (P .count) (λ i l. le-leb (at a i) (P .ceiling i) (h .within i l))) (ap isZero (h .balanced))

@@ -1,22 +1,27 @@
--- Laws of classifying: K of an item and the word either way round, the size of a score, what each class means, the answer by the stage
--- that gives it, and the answer by multipliers that are all 0. Assumes nothing.
+-- Laws of classifying: K of an item and the word either way round, the word as an item, the size of a score, what each class means, the
+-- answer by the stage that gives it, and the answer by multipliers that are all 0. Assumes nothing.
 use mathlib.Core.Path.{_≡_, refl, sym, _∙_, ap, subst}
 use mathlib.Core.Logic.{_↔_}
-use mathlib.Core.Bool.{Bool, true, false, cond, _&&_}
+use mathlib.Core.Bool.{Bool, true, false, cond, _&&_, and-true}
 use mathlib.Core.List.{List, [], _∷_}
-use Prim.Native.Nat.{ℕ, zero, suc, _+_, _*_, _≤_, _<_}
+use Prim.Native.Nat.{ℕ, zero, suc, _+_, _-_, _*_, _≤_, _<_}
 use native.Mathlib.Omega.{arith}
 use lib.Dec.{eqb}
 use lib.IntN.{ℤ, pos, negsuc, natAbs, _+ℤ_, _-ℤ_, _*ℤ_}
-use lib.ListN.{length}
+use lib.ListN.{length, getD, List·getD-eq-default}
+use Rattle.integers.specs.Zero.{isZero}
+use Rattle.integers.specs.Places.{all}
 use Rattle.integers.proofs.Laws.Test.{chose-either}
 use Rattle.integers.proofs.Laws.Solver.{con, ⊝_, _⊕_, _⊗_, _⊖_, x₀, solve}
 use Rattle.integers.proofs.Laws.Linear.{integer}
 use Rattle.integers.proofs.Laws.Bounds.{+ℤ-bound, -ℤ-bound, *ℤ-bound}
+use Rattle.integers.proofs.Laws.Places.{all-first, all-true}
 use Rattle.training_file.specs.declared.parameters.Parameters.{Parameters}
 use Rattle.training_file.specs.declared.item.Item.{Item}
 use Rattle.training_file.specs.declared.refusal.Refusal.{Refusal}
 use Rattle.training_file.specs.Refusal.{refusal}
+use Rattle.training_file.specs.Layout.{featureCount}
+use Rattle.training_file.specs.Item.{featureAllowed, featuresAllowed, itemAllowed, labelAllowed, zeroPast}
 use Rattle.reading.specs.declared.reader.FileAnswer.the-variants as file-answer
 use Rattle.reading.specs.Reading.{Reading, refused, accepted, reading}
 use Rattle.reading.specs.Calls.{Read, itemIn, itemsIn, fileAnswer}
@@ -30,7 +35,7 @@ use Rattle.dual_problem.proofs.Laws.Items.Read.{labels-present}
 use Rattle.certifying.specs.declared.certify.Thresholds.{Thresholds}
 use Rattle.certifying.specs.declared.multipliers.Judgement.{Judgement}
 use Rattle.certifying.specs.declared.multipliers.Judgement.the-variants as judged
-use Rattle.certifying.specs.Multipliers.{balance, isZero, judgement, withinCeilings}
+use Rattle.certifying.specs.Multipliers.{balance, judgement, withinCeilings}
 use Rattle.certifying.proofs.Laws.Multipliers.{verdict}
 use Rattle.classifying.specs.declared.classify.Class.{Class}
 use Rattle.classifying.specs.declared.classify.Class.the-variants.{LookedUp, PassedOver, Undecided}
@@ -39,10 +44,40 @@ use Rattle.classifying.specs.declared.classify.Classified.the-variants.{
 use Rattle.classifying.specs.Classify.{Means, UndecidedUnlessRefused, SameFeatures, classOf, classifyItems, classifyJudged, classifyRead, classifying, score, scoreWith, wordAllowed, wordKernel}
 
 -- ---- the kernel
--- a list with the word's features, compared with an item, gives K of the item and the word
-pub wordKernel-is : (p : Parameters) (items : List Item) (xs word : List ℤ) → SameFeatures xs word → (i : ℕ) → kernelBetween p xs (itemIn items i .features) ≡ wordKernel p items word i
-wordKernel-is p items xs word e i =
-    kernelValue-cong (p .kernel) (p .used) xs word (itemIn items i .features) e ∙ kernelValue-comm (p .kernel) (p .used) word (itemIn items i .features)
+-- K of an item and the word, either way round
+pub wordKernel-is : (p : Parameters) (items : List Item) (word : List ℤ) (i : ℕ) → kernelBetween p word (itemIn items i .features) ≡ wordKernel p items word i
+wordKernel-is p items word i = kernelValue-comm (p .kernel) (p .used) word (itemIn items i .features)
+
+-- ---- sixteen features that are the word's, past its end 0
+module _ (features word : List ℤ) (same : SameFeatures features word) where
+  -- with a label that is allowed, they are an item exactly where the word is allowed
+  pub word-allowed : (byte : ℕ) → labelAllowed byte ≡ true → length word ≤ featureCount → itemAllowed (length word) byte features ≡ wordAllowed word
+  unfolding featuresAllowed
+  word-allowed byte label short =
+      (λ k. label k && (all featureCount (λ i. featureAllowed (same i k)) && zeros k))
+      ∙ and-true (all featureCount in-range)
+      ∙ ap (λ n. all n in-range) (omega arith)
+      ∙ all-first in-range (length word) (featureCount - length word) (λ i h. ap featureAllowed (past i h))
+    where
+      in-range : ℕ → Bool
+      in-range i = featureAllowed (getD word i (pos 0))
+
+      past : (i : ℕ) → length word ≤ i → getD word i (pos 0) ≡ pos 0
+      past i h = List·getD-eq-default word (pos 0) {n = i} h
+
+      zeros : zeroPast (length word) features ≡ true
+      zeros =
+          all-true (λ i. isZero (getD features (length word + i) (pos 0))) (featureCount - length word)
+          (λ i l. ap isZero (same (length word + i) ∙ past (length word + i) (omega arith)))
+
+  -- they give the word's score
+  pub score-same : (p : Parameters) (items : List Item) (a : ℕ → ℕ) (thresholds : Thresholds) → scoreWith p items a thresholds features ≡ scoreWith p items a thresholds word
+  unfolding scoreWith
+  score-same p items a thresholds = λ k. pos 2 *ℤ weighedSum (problem p items) a (λ i. kernel i k) -ℤ (thresholds .lower +ℤ thresholds .upper)
+    where
+      kernel : (i : ℕ) → wordKernel p items features i ≡ wordKernel p items word i
+      kernel i =
+          sym (wordKernel-is p items features i) ∙ kernelValue-cong (p .kernel) (p .used) features word (itemIn items i .features) same ∙ wordKernel-is p items word i
 
 -- ---- how large a doubled score and its parts are, by the sum over the items and the thresholds
 module _ (p : Parameters) (items : List Item) (a : ℕ → ℕ) (thresholds : Thresholds) (word : List ℤ) where

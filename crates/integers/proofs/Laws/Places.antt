@@ -1,9 +1,9 @@
 -- Laws of a test of the places i < n. Assumes nothing.
 use mathlib.Core.Path.{_≡_, refl, sym, _∙_, ap}
 use mathlib.Core.Logic.{_⊎_, inl, inr}
-use mathlib.Core.Bool.{Bool, true, false, _&&_, and-false}
-use Prim.Native.Nat.{ℕ, zero, suc, _<_}
-use native.Mathlib.Nat.{le-refl, le-of-suc-le-suc, eq-or-lt-of-le}
+use mathlib.Core.Bool.{Bool, true, false, _&&_, and-true, and-false}
+use Prim.Native.Nat.{ℕ, zero, suc, _+_, _≤_, _<_}
+use native.Mathlib.Nat.{add-zero, add-suc, le-refl, le-of-suc-le-suc, eq-or-lt-of-le}
 use native.Mathlib.Omega.{arith}
 use Rattle.integers.proofs.Laws.Test.{&&-true, &&-left, &&-right}
 use Rattle.integers.specs.Places.{all}
@@ -37,3 +37,10 @@ module _ (p : ℕ → Bool) where
   unfolding all
   all-true zero h = refl
   all-true (suc n) h = all-suc n (all-true n (λ i l. h i (omega arith))) (h n (le-refl (suc n)))
+
+  -- where it holds from n on, the first n places decide
+  pub all-first : (n k : ℕ) → ((i : ℕ) → n ≤ i → p i ≡ true) → all (n + k) p ≡ all n p
+  unfolding all
+  all-first n zero h = ap (λ m. all m p) (add-zero n)
+  all-first n (suc k) h =
+      ap (λ m. all m p) (add-suc n k) ∙ (λ j. all-first n k h j && h (n + k) (omega arith) j) ∙ and-true (all n p)

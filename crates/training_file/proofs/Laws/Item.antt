@@ -1,21 +1,23 @@
 -- Laws of items. Assumes nothing.
-use mathlib.Core.Path.{_≡_, refl, sym, ap, _∙_}
+use mathlib.Core.Path.{_≡_, refl, sym}
 use mathlib.Core.Bool.{Bool, true, false}
-use mathlib.Core.List.{List, map}
-use Prim.Native.Nat.{ℕ, _-_, _≤_, _<_}
+use mathlib.Core.List.{List}
+use Prim.Native.Nat.{ℕ, _+_, _-_, _≤_, _<_}
 use native.Mathlib.Decide.{decLt}
 use native.Mathlib.Omega.{arith}
-use lib.Dec.{leb, ltb, eqb, lit≤}
+use lib.Dec.{leb, eqb, lit≤}
 use lib.IntN.{ℤ, pos, negsuc, negℤ, natAbs}
-use lib.ListN.{length, getD, List·getD-map, List·getD-eq-default}
+use lib.ListN.{length, getD, List·getD-eq-default}
 use lib.Signed.{leZ}
-use borrow.Author.Tests.{leb-true, eqb-true, eqb-false, lt-ltb, le-ltb}
-use Rattle.integers.proofs.Laws.Test.{&&-both}
+use borrow.Author.Tests.{leb-true, eqb-true, eqb-false}
+use Rattle.integers.specs.Zero.{isZero}
+use Rattle.integers.proofs.Laws.Test.{&&-both, &&-left, &&-right}
+use Rattle.integers.proofs.Laws.Zero.{is-zero-true}
 use Rattle.integers.proofs.Laws.Places.{all-holds}
 use Rattle.training_file.specs.declared.item.Label.{Label}
 use Rattle.training_file.specs.declared.item.Label.the-variants.{LookedUp, PassedOver}
-use Rattle.training_file.specs.Layout.{byteAt, featureCount, signedByte}
-use Rattle.training_file.specs.Item.{byteOfLabel, featureAllowed, featureByteAllowed, featureMost, featuresAllowed, labelAllowed, labelOfByte, same}
+use Rattle.training_file.specs.Layout.{featureCount}
+use Rattle.training_file.specs.Item.{byteOfLabel, featureAllowed, featureMost, featuresAllowed, inRange, labelAllowed, labelOfByte, same, zeroPast}
 use Rattle.training_file.proofs.Laws.Parameters.{within-both}
 
 -- ---- labels
@@ -49,31 +51,31 @@ pub feature-most : (z : ℤ) → featureAllowed z ≡ true → natAbs z ≤ feat
 feature-most (pos n) h = leb-true n featureMost (&&-both (leZ (negℤ (pos featureMost)) (pos n)) (leb n featureMost) h .1)
 feature-most (negsuc n) h = omega (arith, leb-true n (featureMost - 1) (&&-both (leZ (negℤ (pos featureMost)) (negsuc n)) true h .0))
 
-module _ (d : ℕ) (bytes : List ℕ) (allowed : featuresAllowed d bytes ≡ true) (sixteen : length bytes ≡ featureCount) where
-  byte-allowed : (i : ℕ) → i < featureCount → featureByteAllowed (ltb i d) (byteAt bytes i) ≡ true
+module _ (d : ℕ) (features : List ℤ) (allowed : featuresAllowed d features ≡ true) (sixteen : length features ≡ featureCount) where
+  -- a place of the sixteen, by the rule; past them a list reads 0
+  in-range : (i : ℕ) → i < featureCount → featureAllowed (getD features i (pos 0)) ≡ true
   unfolding featuresAllowed
-  byte-allowed i h = all-holds (λ k. featureByteAllowed (ltb k d) (byteAt bytes k)) featureCount allowed i h
+  in-range i h = all-holds (λ k. featureAllowed (getD features k (pos 0))) featureCount (&&-left (inRange features) (zeroPast d features) allowed) i h
 
-  -- at each place, also past the sixteen, where a list reads 0
-  feature-at : (i : ℕ) → getD (map signedByte bytes) i (pos 0) ≡ signedByte (byteAt bytes i)
-  feature-at i = List·getD-map signedByte bytes i 0
+  zero : (k : ℕ) → k < featureCount - d → isZero (getD features (d + k) (pos 0)) ≡ true
+  unfolding featuresAllowed
+  zero k h = all-holds (λ k. isZero (getD features (d + k) (pos 0))) (featureCount - d) (&&-right (inRange features) (zeroPast d features) allowed) k h
 
-  past-sixteen : (i : ℕ) → featureCount ≤ i → byteAt bytes i ≡ 0
-  past-sixteen i h = List·getD-eq-default bytes 0 {n = i} (omega arith)
+  past-sixteen : (i : ℕ) → featureCount ≤ i → getD features i (pos 0) ≡ pos 0
+  past-sixteen i h = List·getD-eq-default features (pos 0) {n = i} (omega arith)
 
   -- past d it is 0
-  pub features-past : (i : ℕ) → d ≤ i → getD (map signedByte bytes) i (pos 0) ≡ pos 0
-  features-past i h = feature-at i ∙ ap signedByte (byte (decLt i featureCount))
+  pub features-past : (i : ℕ) → d ≤ i → getD features i (pos 0) ≡ pos 0
+  features-past i h = by (decLt i featureCount)
     where
-      byte : Dec (i < featureCount) → byteAt bytes i ≡ 0
-      byte (yes l) = eqb-true (byteAt bytes i) 0 (rw (le-ltb i d h) at (byte-allowed i l))
-      byte (no l) = past-sixteen i (omega arith)
+      by : Dec (i < featureCount) → getD features i (pos 0) ≡ pos 0
+      by (yes l) = let e : d + (i - d) ≡ i = omega arith in is-zero-true (getD features i (pos 0)) (rw e at (zero (i - d) (omega arith)))
+      by (no l) = past-sixteen i (omega arith)
 
   -- everywhere it is in its range
-  pub features-most : (i : ℕ) → natAbs (getD (map signedByte bytes) i (pos 0)) ≤ featureMost
-  features-most i = within (decLt i d) (decLt i featureCount)
+  pub features-most : (i : ℕ) → natAbs (getD features i (pos 0)) ≤ featureMost
+  features-most i = by (decLt i featureCount)
     where
-      within : Dec (i < d) → Dec (i < featureCount) → natAbs (getD (map signedByte bytes) i (pos 0)) ≤ featureMost
-      within (no l) s = rw (features-past i (omega arith)) (omega arith)
-      within (yes l) (no s) = rw (feature-at i, past-sixteen i (omega arith)) (omega arith)
-      within (yes l) (yes s) = rw (feature-at i) (feature-most (signedByte (byteAt bytes i)) (rw (lt-ltb i d l) at (byte-allowed i s)))
+      by : Dec (i < featureCount) → natAbs (getD features i (pos 0)) ≤ featureMost
+      by (yes l) = feature-most (getD features i (pos 0)) (in-range i l)
+      by (no l) = rw (past-sixteen i (omega arith)) (omega arith)

@@ -1,43 +1,41 @@
 -- Laws of records. Assumes nothing.
 use mathlib.Core.Path.{_≡_, _∙_}
-use mathlib.Core.Bool.{true, false, _&&_, and-true, and-false}
+use mathlib.Core.Bool.{true, false}
 use mathlib.Core.List.{List}
 use Prim.Native.Nat.{ℕ}
 use native.Mathlib.Omega.{arith}
 use lib.Dec.{eqb}
-use lib.ListN.{length, length-take, length-drop}
-use Rattle.integers.proofs.Laws.Test.{&&-both, chose-first, chose-second}
+use lib.ListN.{length, length-map, length-take, length-drop}
+use Rattle.integers.proofs.Laws.Test.{&&-right, chose-first, chose-second}
 use Rattle.training_file.specs.declared.refusal.Refusal.{Refusal}
 use Rattle.training_file.specs.declared.item.Label.{Label}
 use Rattle.training_file.specs.declared.item.LabelAnswer.the-variants.{Refused, Known}
-use Rattle.training_file.specs.Layout.{featureBytes, featureCount, labelByte, zeroByte}
-use Rattle.training_file.specs.Item.{featuresAllowed, labelAllowed}
-use Rattle.training_file.specs.Record.{Stored, labelAt, recordAllowed}
+use Rattle.training_file.specs.Layout.{featureBytes, featureCount, labelByte, signedByte, zeroByte}
+use Rattle.training_file.specs.Item.{featuresAllowed, itemAllowed, labelAllowed}
+use Rattle.training_file.specs.Record.{Stored, featuresAt, labelAt, recordAllowed}
 use Rattle.training_file.specs.Answers.{recordAnswer}
 
 -- a record that stands whole in the file has its sixteen features
-pub features-sixteen : (file : List ℕ) (r : ℕ) → Stored file r → length (featureBytes file r) ≡ featureCount
-features-sixteen file r stored = simp (length-take, length-drop) (omega arith)
+pub bytes-sixteen : (file : List ℕ) (r : ℕ) → Stored file r → length (featureBytes file r) ≡ featureCount
+bytes-sixteen file r stored = simp (length-take, length-drop) (omega arith)
+
+pub features-sixteen : (file : List ℕ) (r : ℕ) → Stored file r → length (featuresAt file r) ≡ featureCount
+features-sixteen file r stored = length-map (featureBytes file r) signedByte ∙ bytes-sixteen file r stored
 
 -- ---- refusal 4 by its parts
 
 module _ (d : ℕ) (file : List ℕ) (r : ℕ) where
   pub zero-refused : eqb (zeroByte file r) 0 ≡ false → recordAllowed d file r ≡ false
   unfolding recordAllowed
-  zero-refused h = rw (h, and-false (labelAllowed (labelByte file r)))
+  zero-refused h = rw h
 
-  pub features-refused : featuresAllowed d (featureBytes file r) ≡ false → recordAllowed d file r ≡ false
+  pub item-decides : eqb (zeroByte file r) 0 ≡ true → recordAllowed d file r ≡ itemAllowed d (labelByte file r) (featuresAt file r)
   unfolding recordAllowed
-  features-refused h = rw h (and-false (labelAllowed (labelByte file r) && eqb (zeroByte file r) 0))
+  item-decides h = rw h
 
-  pub label-decides : eqb (zeroByte file r) 0 ≡ true → featuresAllowed d (featureBytes file r) ≡ true
-      → recordAllowed d file r ≡ labelAllowed (labelByte file r)
+  pub record-features : recordAllowed d file r ≡ true → featuresAllowed d (featuresAt file r) ≡ true
   unfolding recordAllowed
-  label-decides z f = rw (z, f) (and-true (labelAllowed (labelByte file r) && true) ∙ and-true (labelAllowed (labelByte file r)))
-
-  pub record-features : recordAllowed d file r ≡ true → featuresAllowed d (featureBytes file r) ≡ true
-  unfolding recordAllowed
-  record-features h = &&-both (labelAllowed (labelByte file r) && eqb (zeroByte file r) 0) (featuresAllowed d (featureBytes file r)) h .1
+  record-features h = &&-right (labelAllowed (labelByte file r)) _ (&&-right (eqb (zeroByte file r) 0) _ h)
 
 -- ---- what an answer says of the record
 

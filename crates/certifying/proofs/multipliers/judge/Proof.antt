@@ -4,16 +4,14 @@ use mathlib.Core.Bool.{true}
 use native.Mathlib.Nat.{le-of-eq}
 use borrow.Author.Tests.{eq-eqb, ne-eqb, not-true, not-false}
 use lib.Dec.{leb, eqb}
-use lib.IntN.{ℤ, pos}
 use lib.ListN.{length}
-use mir.Facts.{toZ-ofZ}
 use mir.Syntax.{w64}
-use mir.Val.{SFits, toZ, ofZ}
+use Rattle.integers.specs.Zero.{isZero}
 use Rattle.integers.specs.Places.{all}
+use Rattle.integers.proofs.Laws.Zero.{bits-nonzero, bits-zero}
 use Rattle.dual_problem.specs.Problem.{Problem}
 use Rattle.dual_problem.specs.Items.{at, problemOf}
-use Rattle.certifying.specs.Multipliers.{balance}
-use Rattle.certifying.proofs.Laws.Multipliers.{judgement-is, zero-is-zero, nonzero-is-zero}
+use Rattle.certifying.proofs.Laws.Multipliers.{judgement-is}
 use Rattle.certifying.proofs.multipliers.judge.Statement.{statement}
 use Rattle.certifying.proofs.multipliers.judge.Tie as tie
 
@@ -23,10 +21,6 @@ P s = problemOf (s .args .file .now) (s .args .parameters)
 -- the problem's count is the one handed in
 counted : (s : tie.Start) → P s .count ≡ s .args .count
 counted s = sym (s .pre .counted)
-
--- bits that are 0 hold 0, and others don't
-zero-bits : {z : ℤ} → SFits w64 z → ofZ w64 z ≡ 0 → z ≡ pos 0
-zero-bits fits e = sym (toZ-ofZ fits) ∙ ap (toZ w64) e
 
 -- what each test says of the definition's
 module _ (s : tie.Start) where
@@ -58,7 +52,7 @@ returns-3 c =
     let e = c .before .signed-sum .ensures (s .args .parameters) in
     sym
     (judgement-is (P s) (s .args .multipliers .now) (count-right s (c .before .before .before .before .if1 .left)) (within-is s ∙ sym (c .before .before .before .within-ceilings .ensures) ∙ not-false _ (c .before .before .if2 .left))
-    (nonzero-is-zero (balance (P s) (at (s .args .multipliers .now))) (λ z. c .if3 .taken (ap (ofZ w64) (e ∙ z)))))
+    (sym (ap isZero e) ∙ bits-nonzero w64 (c .before .signed-sum .result) (c .if3 .taken)))
 
 returns-4 : tie.Need-returns-4
 returns-4 c =
@@ -66,7 +60,7 @@ returns-4 c =
     let e = c .before .signed-sum .ensures (s .args .parameters) in
     sym
     (judgement-is (P s) (s .args .multipliers .now) (count-right s (c .before .before .before .before .if1 .left)) (within-is s ∙ sym (c .before .before .before .within-ceilings .ensures) ∙ not-false _ (c .before .before .if2 .left))
-    (zero-is-zero (sym e ∙ zero-bits (record { sfits = c .before .signed-sum .ok }) (c .if3 .left))))
+    (sym (ap isZero e) ∙ bits-zero w64 (c .before .signed-sum .result) (record { sfits = c .before .signed-sum .ok }) (c .if3 .left)))
 
 pub judge-spec : {M : Type 1} → statement M
 judge-spec =

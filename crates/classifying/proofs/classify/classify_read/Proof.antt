@@ -22,7 +22,7 @@ use Rattle.certifying.specs.Multipliers.{judgement, judgementRefusal}
 use Rattle.certifying.proofs.Laws.Multipliers.{judgement-feasible}
 use Rattle.classifying.specs.declared.classify.Classified.the-variants.{Refused, Is}
 use Rattle.classifying.specs.Classify.{classOf, classifyItems, scoreWith}
-use Rattle.classifying.proofs.Laws.Classify.{class, feasible-are, items-are}
+use Rattle.classifying.proofs.Laws.Classify.{class, feasible-are, items-are, score-same}
 use Rattle.classifying.proofs.classify.classify_read.Statement.{statement}
 use Rattle.classifying.proofs.classify.classify_read.Tie as tie
 
@@ -53,11 +53,11 @@ returns-2 c =
     ap Refused (c .refusal .ensures ∙ ap judgementRefusal why)
     ∙ sym (items-are (s .args .parameters) (items s) (s .args .multipliers .now) (s .args .word .now) (eq-eqb _ _ (c .before .before .before .before .if1 .left)) (sym (c .before .before .before .judge .ensures) ∙ why))
 
-word-allowed-requires : tie.Need-word-allowed-requires
-word-allowed-requires c κs = search needs
+word-item-requires : tie.Need-word-item-requires
+word-item-requires c κs = omega (arith, c .before .before .before .before .before .before .before .before .pre .1 .used-greatest, c .before .before .before .if1 .left)
 
 -- past the judging the multipliers are feasible, and the word has d features
-module _ (c : tie.After-word-allowed) where
+module _ (c : tie.After-word-item) where
   s : tie.Start
   s = c .before .before .before .before .before .before .before .before .before
 
@@ -65,14 +65,14 @@ module _ (c : tie.After-word-allowed) where
   unfolding s
   judged = sym (c .before .before .before .judge .ensures) ∙ c .before .enum-told .given .1
 
-  class-is : {t : Bool} → c .word-allowed .result ≡ t
+  class-is : {t : Bool} → c .word-item .result .allowed ≡ t
       → cond t (class (s .args .parameters) (items s) (s .args .multipliers .now) (s .args .word .now)) (Refused (refusal 9))
       ≡ classifyItems (s .args .parameters) (items s) (s .args .multipliers .now) (s .args .word .now)
   unfolding s
   class-is e =
       sym
       (feasible-are (s .args .parameters) (items s) (s .args .multipliers .now) (s .args .word .now) (eq-eqb _ _ (c .before .before .before .before .if1 .left)) judged
-      (sym (c .word-allowed .ensures) ∙ e))
+      (sym (c .word-item .ensures .0) ∙ e))
 
   listed : MultipliersListed (s .args .file .now) (s .args .order .now) (s .args .count) (s .args .parameters) (s .args .multipliers .now)
   unfolding s
@@ -88,23 +88,22 @@ module _ (c : tie.After-word-allowed) where
 
 returns-3 : tie.Need-returns-3
 unfolding s
-returns-3 c = class-is (c .before) (not-true _ (c .if2 .taken))
+returns-3 c = class-is (c .before .before) (not-true _ (c .if2 .taken))
 
 find-thresholds-requires : tie.Need-find-thresholds-requires
 unfolding s
-find-thresholds-requires c κs = listed (c .before)
+find-thresholds-requires c κs = listed (c .before .before)
 
 find-score-requires : tie.Need-find-score-requires
 unfolding s
 find-score-requires c κs =
-    let d = c .before .before in
+    let d = c .before .before .before in
     let found = c .find-thresholds .ensures in
     let a = s d .args in
     record {
       listed = listed d;
       lower-size = subst (λ z. natAbs z ≤ gradientMost) (sym (λ k. found k .lower)) (b-low-size (a .file .now) (a .order .now) (a .count) (a .parameters) (a .multipliers .now) (listed d));
       upper-size = subst (λ z. natAbs z ≤ gradientMost) (sym (λ k. found k .upper)) (b-up-size (a .file .now) (a .order .now) (a .count) (a .parameters) (a .multipliers .now) (listed d));
-      short = omega (arith, s d .pre .1 .used-greatest, d .before .before .before .before .if1 .left);
     }
 
 of-score-requires : tie.Need-of-score-requires
@@ -113,11 +112,14 @@ of-score-requires c κs = search needs
 returns-4 : tie.Need-returns-4
 unfolding s
 returns-4 c =
-    let a = s (c .before .before .before .before) .args in
+    let d = c .before .before .before .before .before in
+    let a = s d .args in
+    let scores = scoreWith (a .parameters) (itemsIn (reading (a .file .now))) (at (a .multipliers .now)) in
     let found = c .before .before .find-thresholds .ensures in
     let score-is = reads-element w64 (c .before .find-score .result) (c .before .find-score .ok) ∙ c .before .find-score .ensures
-    ∙ ap (λ both. scoreWith (a .parameters) (itemsIn (reading (a .file .now))) (at (a .multipliers .now)) both (a .word .now)) found in
-    ap Is (c .of-score .ensures ∙ ap classOf score-is) ∙ class-is (c .before .before .before .before) (not-false _ (c .before .before .before .if2 .left))
+    ∙ ap (λ both. scores both (d .word-item .result .item .features)) found
+    ∙ score-same (d .word-item .result .item .features) (a .word .now) (d .word-item .ensures .1) (a .parameters) (itemsIn (reading (a .file .now))) (at (a .multipliers .now)) _ in
+    ap Is (c .of-score .ensures ∙ ap classOf score-is) ∙ class-is d (not-false _ (c .before .before .before .if2 .left))
 
 pub classify-read-spec : {M : Type 1} → statement M
 classify-read-spec =
@@ -129,7 +131,7 @@ classify-read-spec =
     enum-told-2
     refusal-requires
     returns-2
-    word-allowed-requires
+    word-item-requires
     returns-3
     find-thresholds-requires
     find-score-requires

@@ -17,15 +17,12 @@ use Rattle.classifying.proofs.Laws.Classify.{score-size, wordKernel-is}
 use Rattle.classifying.proofs.classify.find_score.Statement.{statement}
 use Rattle.classifying.proofs.classify.find_score.Tie as tie
 
-word-item-requires : tie.Need-word-item-requires
-word-item-requires c κs = search needs
-
 weighed-sum-requires : tie.Need-weighed-sum-requires
 weighed-sum-requires c κs = search needs
 
 module _ (c : tie.After-weighed-sum) where
   s : tie.Start
-  s = c .before .before .before .before .before
+  s = c .before .before .before .before
 
   P : Problem
   P = problemOf (s .args .file .now) (s .args .parameters)
@@ -35,13 +32,13 @@ module _ (c : tie.After-weighed-sum) where
 
   -- the sum over all items; then each part of the score: what the code has is what the definition has, and how large it is
   whole : ℤ
-  whole = weighedSum P a (wordKernel (s .args .parameters) (itemsIn (reading (s .args .file .now))) (s .args .word .now))
+  whole = weighedSum P a (wordKernel (s .args .parameters) (itemsIn (reading (s .args .file .now))) (s .args .word .features))
 
   whole-is : c .weighed-sum .result ≡ whole
   unfolding s P a whole
   whole-is =
       c .weighed-sum .ensures .0
-      ∙ (λ i. weighedSum P a (λ j. wordKernel-is (s .args .parameters) (itemsIn (reading (s .args .file .now))) (c .before .word-item .result .features) (s .args .word .now) (c .before .word-item .ensures) j i))
+      ∙ (λ i. weighedSum P a (λ j. wordKernel-is (s .args .parameters) (itemsIn (reading (s .args .file .now))) (s .args .word .features) j i))
 
   whole-size : natAbs whole ≤ weighedMost
   whole-size = subst (λ z. natAbs z ≤ weighedMost) whole-is (c .weighed-sum .ensures .1)
@@ -59,7 +56,7 @@ module _ (c : tie.After-weighed-sum) where
   sizes : (natAbs (pos 2 *ℤ whole) ≤ 2 * weighedMost) × (natAbs (b-low +ℤ b-up) ≤ gradientMost + gradientMost) × (natAbs (pos 2 *ℤ whole -ℤ (b-low +ℤ b-up)) ≤ scoreMost)
   unfolding s P a whole b-low b-up scoreWith
   sizes =
-      score-size (s .args .parameters) (itemsIn (reading (s .args .file .now))) a (s .args .thresholds) (s .args .word .now) whole-size (s .pre .lower-size)
+      score-size (s .args .parameters) (itemsIn (reading (s .args .file .now))) a (s .args .thresholds) (s .args .word .features) whole-size (s .pre .lower-size)
       (s .pre .upper-size)
 
   both-are : toZ w64 (ofZ w64 b-low) +ℤ toZ w64 (ofZ w64 b-up) ≡ b-low +ℤ b-up
@@ -88,7 +85,6 @@ pub find-score-spec : {M : Type 1} → statement M
 find-score-spec =
     tie.close
     (tie.spec
-    word-item-requires
     weighed-sum-requires
     mul-result
     add-result

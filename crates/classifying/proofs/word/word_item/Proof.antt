@@ -9,9 +9,12 @@ use native.Mathlib.Omega.{arith}
 use lib.IntN.{ℤ, pos}
 use lib.ListN.{length, getD, set, replicate, getD-replicate, List·getD-eq-default}
 use mir.Syntax.{w8}
+use borrow.Author.Needs.{needs}
 use Rattle.integers.proofs.Laws.Bounds.{reads-element}
 use Rattle.integers.specs.Written.{written}
 use Rattle.integers.proofs.Laws.Written.{written-at, written-past}
+use Rattle.classifying.specs.Classify.{SameFeatures}
+use Rattle.classifying.proofs.Laws.Classify.{word-allowed}
 use Rattle.classifying.proofs.word.word_item.Statement.{statement}
 use Rattle.classifying.proofs.word.word_item.Tie as tie
 
@@ -54,12 +57,24 @@ loop-again : tie.Need-loop-again Inv-loop μ-loop
 unfolding written
 loop-again c = (omega arith, rw add-one (λ k. set (c .before .before .loop .inv .1 k) (c .before .before .loop .i) (reads-element w8 (getD (c .before .before .before .args .word .now) (c .before .before .loop .i) (pos 0)) (c .features .given) k)))
 
+new-requires : tie.Need-new-requires Inv-loop μ-loop
+new-requires c κs = search needs
+
+-- past the loop all of the word's features are there
+same : (c : tie.After-loop Inv-loop μ-loop) → SameFeatures (c .before .loop .features) (c .before .before .args .word .now)
+same c q =
+    let word = c .before .before .args .word .now in
+    let e : c .before .loop .i ≡ length word = omega arith in
+    ap (λ l. getD l q (pos 0)) (c .before .loop .inv .1 ∙ ap (λ n. written n (λ q. getD word q (pos 0)) (replicate 16 (pos 0))) e)
+    ∙ padded word q (c .before .before .pre)
+
 returns : tie.Need-returns Inv-loop μ-loop
-returns c q =
-    let s = c .before .before in
-    let e : c .before .loop .i ≡ length (s .args .word .now) = omega arith in
-    ap (λ l. getD l q (pos 0)) (c .before .loop .inv .1 ∙ ap (λ n. written n (λ q. getD (s .args .word .now) q (pos 0)) (replicate 16 (pos 0))) e)
-    ∙ padded (s .args .word .now) q (s .pre)
+returns c =
+    let answer = c .new .ensures in
+    let word = c .before .before .before .args .word .now in (
+      (λ i. answer i .allowed) ∙ word-allowed (c .before .before .loop .features) word (same (c .before)) 2 refl (c .before .before .before .pre),
+      λ q. ap (λ (l : List ℤ). getD l q (pos 0)) (λ i. answer i .item .features) ∙ same (c .before) q,
+    )
 
 pub word-item-spec : {M : Type 1} → statement M
 word-item-spec =
@@ -73,4 +88,5 @@ word-item-spec =
     add-i
     loop-less
     loop-again
+    new-requires
     returns)

@@ -14,11 +14,11 @@ use Rattle.training_file.specs.declared.parameters.Parameters.{Parameters}
 use Rattle.training_file.specs.declared.item.Label.{Label}
 use Rattle.training_file.specs.declared.item.Label.the-variants.{LookedUp, PassedOver}
 use Rattle.training_file.specs.declared.item.Item.{Item}
-use Rattle.training_file.specs.Layout.{featureBytes, featureCount, firstRecord, nextOf, recordsStored}
+use Rattle.training_file.specs.Layout.{featureCount, firstRecord, nextOf, recordsStored}
 use Rattle.training_file.specs.Parameters.{Ranges, recordsMost}
 use Rattle.training_file.proofs.Laws.Parameters.{allowed-ranges}
 use Rattle.training_file.specs.Item.{featureMost, featuresAllowed, same}
-use Rattle.training_file.specs.Record.{Stored, itemAt, recordAllowed}
+use Rattle.training_file.specs.Record.{Stored, featuresAt, itemAt, recordAllowed}
 use Rattle.training_file.proofs.Laws.Item.{features-most, features-past}
 use Rattle.training_file.proofs.Laws.Record.{features-sixteen, record-features}
 use Rattle.chain.specs.Records.{every, labelled}
@@ -107,19 +107,19 @@ module _ (file : List ℕ) (p : Parameters) (rs : List ℕ) (items : List Item) 
 
   -- the features of each item
   module _ (k : ℕ) (h : k < length rs) where
-    record-allowed : featuresAllowed (p .used) (featureBytes file (getD rs k 0)) ≡ true
+    record-allowed : featuresAllowed (p .used) (featuresAt file (getD rs k 0)) ≡ true
     record-allowed = record-features (p .used) file (getD rs k 0) (every-at (recordAllowed (p .used) file) rs (a .records-are) k h)
 
     pub item-features-most : (i : ℕ) → natAbs (getD (itemIn items k .features) i (pos 0)) ≤ featureMost
     item-features-most i =
-        rw (item-is k h) (features-most (p .used) (featureBytes file (getD rs k 0)) record-allowed (features-sixteen file (getD rs k 0) (numbers-stored k h)) i)
+        rw (item-is k h) (features-most (p .used) (featuresAt file (getD rs k 0)) record-allowed (features-sixteen file (getD rs k 0) (numbers-stored k h)) i)
 
     pub item-features-past : (i : ℕ) → p .used ≤ i → getD (itemIn items k .features) i (pos 0) ≡ pos 0
     item-features-past i l =
-        rw (item-is k h) (features-past (p .used) (featureBytes file (getD rs k 0)) record-allowed (features-sixteen file (getD rs k 0) (numbers-stored k h)) i l)
+        rw (item-is k h) (features-past (p .used) (featuresAt file (getD rs k 0)) record-allowed (features-sixteen file (getD rs k 0) (numbers-stored k h)) i l)
 
     pub item-features-sixteen : length (itemIn items k .features) ≡ featureCount
-    item-features-sixteen = rw (item-is k h, length-map) (features-sixteen file (getD rs k 0) (numbers-stored k h))
+    item-features-sixteen = rw (item-is k h) (features-sixteen file (getD rs k 0) (numbers-stored k h))
 
 -- ---- an item that is fetched by its place
 

@@ -9,8 +9,8 @@ use lib.ListN.{length, getD, drop, length-take, length-drop}
 use lib.Seq.{ext-getD, getD-drop, getD-take}
 use Rattle.training_file.specs.declared.parameters.Parameters.{Parameters}
 use Rattle.training_file.specs.declared.item.Item.{Item}
-use Rattle.training_file.specs.Layout.{featureBytes, featureCount, firstRecord, le2, le4, le8, nextOf, recordStart, recordsStored}
-use Rattle.training_file.specs.Item.{itemOf, labelOfByte}
+use Rattle.training_file.specs.Layout.{featureBytes, featureCount, firstRecord, le2, le4, le8, nextOf, recordStart, recordsStored, signedByte}
+use Rattle.training_file.specs.Item.{itemOf}
 use Rattle.training_file.specs.Record.{itemAt, recordAllowed}
 use Rattle.chain.specs.Walk.{Walk, broken, ends}
 use Rattle.chain.specs.Chain.{chain, chainOf}
@@ -132,7 +132,7 @@ module _ (f g : List ℕ) (a : SameChained f g) where
     item-same : (k : ℕ) → k < length rs → itemAt f (getD rs k 0) ≡ itemAt g (getD rs k 0)
     item-same k h =
         let same = record-same k h in
-        ap₂ (λ (label : ℕ) (bytes : List ℕ). itemOf (labelOfByte label) bytes)
+        ap₂ (λ (label : ℕ) (bytes : List ℕ). itemOf label (map signedByte bytes))
         (same (recordStart (getD rs k 0) + 2) (omega arith) (omega arith))
         (features-alike f g (getD rs k 0) (a .lengths) same)
 

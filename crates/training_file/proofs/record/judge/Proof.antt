@@ -1,26 +1,18 @@
 -- `training_file::record::judge` meets its contract: each answer follows from the tests before it. Assumes nothing.
 use mathlib.Core.Path.{_≡_, sym, ap, _∙_}
+use mathlib.Core.Bool.{Bool, cond}
 use Prim.Native.Nat.{ℕ, _+_}
 use lib.Dec.{eqb}
-use lib.ListN.{length}
 use borrow.Author.Needs.{needs}
 use borrow.Author.Tests.{eq-eqb, ne-eqb, not-true, not-false}
-use Rattle.training_file.specs.Layout.{byteAt, featureBytes, recordStart}
-use Rattle.training_file.specs.Item.{featuresAllowed}
-use Rattle.training_file.specs.Answers.{labelAnswer}
-use Rattle.training_file.proofs.Laws.Record.{features-refused, features-sixteen, label-decides, zero-refused}
+use Rattle.training_file.specs.declared.item.LabelAnswer.the-variants.{Refused, Known}
+use Rattle.training_file.specs.Refusal.{refusal}
+use Rattle.training_file.specs.Layout.{byteAt, zeroByte}
+use Rattle.training_file.specs.Record.{labelAt}
+use Rattle.training_file.specs.Answers.{recordAnswer}
+use Rattle.training_file.proofs.Laws.Record.{item-decides, zero-refused}
 use Rattle.training_file.proofs.record.judge.Statement.{statement}
 use Rattle.training_file.proofs.record.judge.Tie as tie
-
--- the byte that is read is the record's own
-at-start : (c : tie.After-start) (k : ℕ)
-    → byteAt (c .before .before .args .file .now) (c .start .result + k) ≡ byteAt (c .before .before .args .file .now) (recordStart (c .before .before .args .number) + k)
-at-start c k = rw (c .start .ensures)
-
--- the features that were judged are the record's own
-features-judged : (c : tie.After-allows-all)
-    → c .allows-all .result ≡ featuresAllowed (c .before .before .before .before .before .before .args .used) (featureBytes (c .before .before .before .before .before .before .args .file .now) (c .before .before .before .before .before .before .args .number))
-features-judged c = c .allows-all .ensures ∙ ap (featuresAllowed _) (c .before .feature-part .ensures)
 
 start-requires : tie.Need-start-requires
 start-requires c κs = search needs
@@ -31,38 +23,38 @@ add-if1 c = search needs
 shared-slice-read-if1 : tie.Need-shared-slice-read-if1
 shared-slice-read-if1 c = search needs
 
+-- the byte that is read is byte 3 of the record
+zero-is : (c : tie.After-start) → byteAt (c .before .before .args .file .now) (c .start .result + 3) ≡ zeroByte (c .before .before .args .file .now) (c .before .before .args .number)
+zero-is c = rw (c .start .ensures)
+
 returns : tie.Need-returns
-returns c =
-    rw (zero-refused _ _ _ (sym (ap (λ (b : ℕ). eqb b 0) (at-start (c .before .before) 3)) ∙ ne-eqb _ _ (c .if1 .taken)))
+returns c = rw (zero-refused _ _ _ (sym (ap (λ (b : ℕ). eqb b 0) (zero-is (c .before .before))) ∙ ne-eqb _ _ (c .if1 .taken)))
 
-feature-part-requires : tie.Need-feature-part-requires
-feature-part-requires c κs = search needs
+read-item-requires : tie.Need-read-item-requires
+read-item-requires c κs = search needs
 
-allows-all-requires : tie.Need-allows-all-requires
-allows-all-requires c κs =
-    ap length (c .feature-part .ensures) ∙ features-sixteen _ _ (c .before .before .before .before .before .pre)
+-- where it is 0 the item decides
+module _ (c : tie.After-read-item) where
+  s : tie.Start
+  s = c .before .before .before .before .before
+
+  decides : {t : Bool} → c .read-item .result .allowed ≡ t
+      → cond t (Known (labelAt (s .args .file .now) (s .args .number))) (Refused (refusal 4)) ≡ recordAnswer (s .args .used) (s .args .file .now) (s .args .number)
+  unfolding s
+  decides e =
+      sym
+      (ap (λ t. cond t (Known (labelAt (s .args .file .now) (s .args .number))) (Refused (refusal 4)))
+      (item-decides _ _ _ (sym (ap (λ (b : ℕ). eqb b 0) (zero-is (c .before .before .before))) ∙ eq-eqb _ _ (c .before .if1 .left)) ∙ sym (λ i. c .read-item .ensures i .allowed) ∙ e))
 
 returns-2 : tie.Need-returns-2
-returns-2 c = rw (features-refused _ _ _ (sym (features-judged (c .before)) ∙ not-true _ (c .if2 .taken)))
-
-add-from-byte : tie.Need-add-from-byte
-add-from-byte c = search needs
-
-shared-slice-read-from-byte : tie.Need-shared-slice-read-from-byte
-shared-slice-read-from-byte c = search needs
-
-from-byte-requires : tie.Need-from-byte-requires
-from-byte-requires c κs = search needs
+unfolding s
+returns-2 c = decides (c .before .before) (not-true _ (c .if2 .taken))
 
 returns-3 : tie.Need-returns-3
+unfolding s
 returns-3 c =
-    let tests = c .before .before .before in
-    let started = tests .before .before .before .before in
-    rw
-    (label-decides _ _ _
-    (sym (ap (λ (b : ℕ). eqb b 0) (at-start started 3)) ∙ eq-eqb _ _ (tests .before .before .if1 .left))
-    (sym (features-judged tests) ∙ not-false _ (c .before .before .if2 .left)))
-    (c .from-byte .ensures ∙ ap labelAnswer (at-start started 2))
+    let read = c .before .before .before in
+    (λ i. Known (read .read-item .ensures i .item .label)) ∙ decides read (not-false _ (c .before .if2 .left))
 
 pub judge-spec : {M : Type 1} → statement M
 judge-spec =
@@ -72,10 +64,6 @@ judge-spec =
     add-if1
     shared-slice-read-if1
     returns
-    feature-part-requires
-    allows-all-requires
+    read-item-requires
     returns-2
-    add-from-byte
-    shared-slice-read-from-byte
-    from-byte-requires
     returns-3)

@@ -1,4 +1,4 @@
--- `training_file::item::Item::of_judged` meets its contract. The loop's invariant: each place passed holds its feature.
+-- `training_file::record::features` meets its contract. The loop's invariant: each place passed holds its feature.
 -- Assumes nothing.
 use mathlib.Core.Path.{_≡_, refl, sym, ap, _∙_}
 use mathlib.Core.List.{List, map}
@@ -11,18 +11,17 @@ use mir.Syntax.{w8}
 use mir.ValLaws.{toZ-ofZ}
 use borrow.Author.Count.{below-more}
 use borrow.Author.Needs.{needs}
-use Rattle.training_file.specs.declared.item.Label.{Label}
-use Rattle.training_file.specs.declared.item.Item.{Item}
-use Rattle.training_file.specs.Layout.{byteAt, signedByte}
-use Rattle.training_file.proofs.item.Item.of_judged.Statement.{statement}
-use Rattle.training_file.proofs.item.Item.of_judged.Tie as tie
+use Rattle.training_file.specs.Layout.{byteAt, featureCount, signedByte}
+use Rattle.training_file.proofs.Laws.Record.{bytes-sixteen}
+use Rattle.training_file.proofs.record.features.Statement.{statement}
+use Rattle.training_file.proofs.record.features.Tie as tie
 
 abbrev Inv-loop : tie.InvT-loop
-Inv-loop label part features₀ i₀ features i =
+Inv-loop file number part features₀ i₀ features i =
     (i ≤ 16) × (length features ≡ 16) × ((k : ℕ) → k < i → getD features k (pos 0) ≡ signedByte (byteAt part k))
 
 abbrev μ-loop : tie.MeasureT-loop
-μ-loop label part features₀ i₀ features i = 16 - i
+μ-loop file number part features₀ i₀ features i = 16 - i
 
 -- a store at the first place that was not passed
 stored : (features : List ℤ) (i : ℕ) (v : ℤ) (right : ℕ → ℤ) → i < length features → v ≡ right i
@@ -32,14 +31,18 @@ stored features i v right l e passed =
     below-more _ i (λ k h. getD-set-other features i k v (pos 0) (omega arith) ∙ passed k h)
     (getD-set-same features i v (pos 0) l ∙ e)
 
-abbrev itemAt : Label → List ℤ → Item
-itemAt label features = record { label = label; features = features }
+feature-part-requires : tie.Need-feature-part-requires Inv-loop μ-loop
+feature-part-requires c κs = search needs
+
+-- the part has sixteen bytes
+sixteen : (c : tie.After-feature-part Inv-loop μ-loop) → length (c .feature-part .result .now) ≡ featureCount
+sixteen c = ap length (c .feature-part .ensures) ∙ bytes-sixteen _ _ (c .before .before .pre)
 
 loop-holds : tie.Need-loop-holds Inv-loop μ-loop
 loop-holds c = (omega arith, refl, λ k h. absurd (omega arith))
 
 shared-slice-read-signed-byte : tie.Need-shared-slice-read-signed-byte Inv-loop μ-loop
-shared-slice-read-signed-byte c = omega arith
+shared-slice-read-signed-byte c = omega (arith, sixteen (c .before .before .before))
 
 signed-byte-requires : tie.Need-signed-byte-requires Inv-loop μ-loop
 signed-byte-requires c κs = search needs
@@ -59,25 +62,26 @@ loop-again c =
       omega arith,
       simp length-set (c .before .before .before .loop .inv .1),
       stored (c .before .before .before .loop .features) (c .before .before .before .loop .i) _
-          (λ k. signedByte (byteAt (c .before .before .before .before .before .args .part .now) k)) (omega arith)
+          (λ k. signedByte (byteAt (c .before .before .before .before .feature-part .result .now) k)) (omega arith)
           (bits ∙ c .signed-byte .ensures) (c .before .before .before .loop .inv .2),
     )
 
 returns : tie.Need-returns Inv-loop μ-loop
 returns c =
     let features = c .before .loop .features in
-    let part = c .before .before .before .args .part .now in
-    ap (itemAt (c .before .before .before .args .label))
-    (ext-getD (pos 0) features (map signedByte part)
-    (simp length-map (omega arith))
-    (λ k h. c .before .loop .inv .2 k (omega arith) ∙ sym (List·getD-map signedByte part k 0)))
+    let part = c .before .before .feature-part .result .now in
+    ext-getD (pos 0) features (map signedByte part)
+    (simp length-map (omega (arith, sixteen (c .before .before))))
+    (λ k h. c .before .loop .inv .2 k (omega arith) ∙ sym (List·getD-map signedByte part k 0))
+    ∙ ap (map signedByte) (c .before .before .feature-part .ensures)
 
-pub of-judged-spec : {M : Type 1} → statement M
-of-judged-spec =
+pub features-spec : {M : Type 1} → statement M
+features-spec =
     tie.close
     (tie.spec
     Inv-loop
     μ-loop
+    feature-part-requires
     loop-holds
     shared-slice-read-signed-byte
     signed-byte-requires
