@@ -59,7 +59,7 @@ Means Undecided value = value ≡ pos 0
 abbrev pub wordAllowed : List ℤ → Bool
 wordAllowed word = all (length word) (λ i. featureAllowed (getD word i (pos 0)))
 
--- judged multipliers: their refusal, or "9: a word's feature outside −127 to 127", or the class
+-- judged multipliers: their refusal, or 9 where a feature of the word is outside its range, or the class
 abbrev pub classifyJudged : Parameters → List Item → List ℕ → List ℤ → Judgement → Classified
 classifyJudged p items a word (judged.Refused why) = Refused why
 classifyJudged p items a word judged.Feasible = cond (wordAllowed word) (Is (classOf (score p items (at a) word))) (Refused (refusal 9))

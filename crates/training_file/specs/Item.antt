@@ -38,15 +38,15 @@ same LookedUp PassedOver = 0
 same PassedOver LookedUp = 0
 same PassedOver PassedOver = 1
 
--- "sixteen features, each a signed byte from −127 to 127"
+-- "sixteen features, each a signed byte", which document 02, request (a), lets "run from −127 to 127"
 abbrev pub featureMost : ℕ
 featureMost = 127
 
 abbrev pub featureAllowed : ℤ → Bool
 featureAllowed feature = leZ (negℤ (pos featureMost)) feature && leZ feature (pos featureMost)
 
-abbrev pub inRange : List ℤ → Bool
-inRange features = all featureCount (λ i. featureAllowed (getD features i (pos 0)))
+abbrev pub eachFeatureAllowed : List ℤ → Bool
+eachFeatureAllowed features = all featureCount (λ i. featureAllowed (getD features i (pos 0)))
 
 -- "Features past d are zero."
 abbrev pub zeroPast : ℕ → List ℤ → Bool
@@ -54,7 +54,7 @@ zeroPast d features = all (featureCount - d) (λ i. isZero (getD features (d + i
 
 -- sixteen features, the first d in use
 unfoldable pub featuresAllowed : ℕ → List ℤ → Bool
-featuresAllowed d features = inRange features && zeroPast d features
+featuresAllowed d features = eachFeatureAllowed features && zeroPast d features
 
 -- a label's byte and sixteen features, the first d in use
 abbrev pub itemAllowed : (d byte : ℕ) → List ℤ → Bool

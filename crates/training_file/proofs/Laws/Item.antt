@@ -17,7 +17,7 @@ use Rattle.integers.proofs.Laws.Places.{all-holds}
 use Rattle.training_file.specs.declared.item.Label.{Label}
 use Rattle.training_file.specs.declared.item.Label.the-variants.{LookedUp, PassedOver}
 use Rattle.training_file.specs.Layout.{featureCount}
-use Rattle.training_file.specs.Item.{byteOfLabel, featureAllowed, featureMost, featuresAllowed, inRange, labelAllowed, labelOfByte, same, zeroPast}
+use Rattle.training_file.specs.Item.{byteOfLabel, featureAllowed, featureMost, featuresAllowed, eachFeatureAllowed, labelAllowed, labelOfByte, same, zeroPast}
 use Rattle.training_file.proofs.Laws.Parameters.{within-both}
 
 -- ---- labels
@@ -55,11 +55,11 @@ module _ (d : ℕ) (features : List ℤ) (allowed : featuresAllowed d features �
   -- a place of the sixteen, by the rule; past them a list reads 0
   in-range : (i : ℕ) → i < featureCount → featureAllowed (getD features i (pos 0)) ≡ true
   unfolding featuresAllowed
-  in-range i h = all-holds (λ k. featureAllowed (getD features k (pos 0))) featureCount (&&-left (inRange features) (zeroPast d features) allowed) i h
+  in-range i h = all-holds (λ k. featureAllowed (getD features k (pos 0))) featureCount (&&-left (eachFeatureAllowed features) (zeroPast d features) allowed) i h
 
   zero : (k : ℕ) → k < featureCount - d → isZero (getD features (d + k) (pos 0)) ≡ true
   unfolding featuresAllowed
-  zero k h = all-holds (λ k. isZero (getD features (d + k) (pos 0))) (featureCount - d) (&&-right (inRange features) (zeroPast d features) allowed) k h
+  zero k h = all-holds (λ k. isZero (getD features (d + k) (pos 0))) (featureCount - d) (&&-right (eachFeatureAllowed features) (zeroPast d features) allowed) k h
 
   past-sixteen : (i : ℕ) → featureCount ≤ i → getD features i (pos 0) ≡ pos 0
   past-sixteen i h = List·getD-eq-default features (pos 0) {n = i} (omega arith)

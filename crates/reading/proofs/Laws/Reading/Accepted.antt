@@ -14,7 +14,7 @@ use Rattle.training_file.specs.declared.parameters.Parameters.{Parameters}
 use Rattle.training_file.specs.declared.item.Label.{Label}
 use Rattle.training_file.specs.declared.item.Label.the-variants.{LookedUp, PassedOver}
 use Rattle.training_file.specs.declared.item.Item.{Item}
-use Rattle.training_file.specs.Layout.{featureCount, firstRecord, nextOf, recordsStored}
+use Rattle.training_file.specs.Layout.{firstRecord, nextOf, recordsStored}
 use Rattle.training_file.specs.Parameters.{Ranges, recordsMost}
 use Rattle.training_file.proofs.Laws.Parameters.{allowed-ranges}
 use Rattle.training_file.specs.Item.{featureMost, featuresAllowed, same}
@@ -26,10 +26,10 @@ use Rattle.chain.proofs.Laws.Chain.{chain-ends, chain-length}
 use Rattle.chain.proofs.Laws.Stages.{order-stored}
 use Rattle.reading.specs.Header.{parametersOf}
 use Rattle.reading.specs.Reading.{reading}
-use Rattle.reading.specs.Calls.{Tabled, itemIn, itemsIn, orderIn, tableAfter}
+use Rattle.reading.specs.Calls.{Tabled, itemIn, itemsIn}
 use Rattle.reading.proofs.Laws.Header.{header-parameters}
-use Rattle.reading.proofs.Laws.Reading.{AcceptedFile, labels-sum}
-use Rattle.reading.proofs.Laws.Calls.{accepted-chained, accepted-order, counted-accepted, table-serves}
+use Rattle.reading.proofs.Laws.Reading.{AcceptedFile}
+use Rattle.reading.proofs.Laws.Calls.{accepted-chained, accepted-order, counted-accepted}
 
 -- ---- lists
 
@@ -92,10 +92,7 @@ module _ (file : List ℕ) (p : Parameters) (rs : List ℕ) (items : List Item) 
   pub label-at : (label : Label) → (k : ℕ) × (k < length items) × (itemIn items k .label ≡ label)
   label-at label = labelled-at label items (some-labelled label)
 
-  -- so there are at least two items, and at most as many as records
-  pub items-least : 2 ≤ length items
-  items-least = omega (arith, labels-sum items, some-labelled LookedUp, some-labelled PassedOver)
-
+  -- there are at most as many items as records
   pub items-most : length items ≤ recordsMost
   items-most =
       omega (
@@ -118,9 +115,6 @@ module _ (file : List ℕ) (p : Parameters) (rs : List ℕ) (items : List Item) 
     item-features-past i l =
         rw (item-is k h) (features-past (p .used) (featuresAt file (getD rs k 0)) record-allowed (features-sixteen file (getD rs k 0) (numbers-stored k h)) i l)
 
-    pub item-features-sixteen : length (itemIn items k .features) ≡ featureCount
-    item-features-sixteen = rw (item-is k h) (features-sixteen file (getD rs k 0) (numbers-stored k h))
-
 -- ---- an item that is fetched by its place
 
 module _ (file table : List ℕ) (k : ℕ) (t : Tabled file table k) where
@@ -133,10 +127,3 @@ module _ (file table : List ℕ) (k : ℕ) (t : Tabled file table k) where
   tabled-item =
       let a = counted-accepted file k (t .counted) in
       ap (itemAt file) (t .same) ∙ sym (item-is file (a .0) _ _ (a .1) k (t .counted))
-
--- a table of 256 places serves every place of every accepted file
-pub full-table-serves : (file table : List ℕ) (k : ℕ) → recordsMost ≤ length table → k < length (orderIn (reading file))
-    → Tabled file (tableAfter (reading file) table) k
-full-table-serves file table k room h =
-    let a = counted-accepted file k h in
-    table-serves file table k (omega (arith, items-counted file (a .0) _ _ (a .1), items-most file (a .0) _ _ (a .1))) h

@@ -16,7 +16,7 @@ use Rattle.integers.proofs.Laws.Bounds.{reads-element}
 use Rattle.integers.proofs.Laws.Test.{&&-false-left, &&-false-right, &&-true}
 use Rattle.integers.proofs.Laws.Places.{all-fails, all-suc}
 use Rattle.training_file.specs.Layout.{featureCount}
-use Rattle.training_file.specs.Item.{featureAllowed, featuresAllowed, inRange, zeroPast}
+use Rattle.training_file.specs.Item.{featureAllowed, featuresAllowed, eachFeatureAllowed, zeroPast}
 use Rattle.training_file.proofs.item.Item.allows_all.Statement.{statement}
 use Rattle.training_file.proofs.item.Item.allows_all.Tie as tie
 
@@ -34,7 +34,7 @@ zero-past-requires c κs = search needs
 
 returns : tie.Need-returns Inv-loop μ-loop
 unfolding featuresAllowed
-returns c = sym (&&-false-right (inRange (c .before .before .args .t1)) (sym (c .before .zero-past .ensures) ∙ not-true _ (c .if1 .taken)))
+returns c = sym (&&-false-right (eachFeatureAllowed (c .before .before .args .t1)) (sym (c .before .zero-past .ensures) ∙ not-true _ (c .if1 .taken)))
 
 loop-holds : tie.Need-loop-holds Inv-loop μ-loop
 unfolding all
