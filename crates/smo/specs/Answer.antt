@@ -1,4 +1,4 @@
--- What the code of the run answers: what is done at the multipliers, and how the run ended. Assumes nothing.
+-- What the code of the run answers, and what it leaves in both lists. Assumes nothing.
 use mathlib.Core.List.{List}
 use Prim.Native.Nat.{ℕ}
 use lib.IntN.{ℤ}

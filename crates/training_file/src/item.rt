@@ -47,8 +47,8 @@ impl Label {
         )
     }
 
-    // The label of a byte that was judged: one that is not looked up is passed over.
-    pub fn of_judged(byte: u8) -> Label
+    // The label that a byte stands for: one that is not looked up is passed over. Nothing rests on that of a byte that isn't allowed.
+    pub fn of_byte(byte: u8) -> Label
         ensures { λ r. ⌜ r ≡ labelOfByte byte ⌝ }
     {
         if byte == Label::LOOKED_UP {
@@ -161,7 +161,7 @@ impl Item {
         ItemAnswer {
             allowed: Label::allows(label) & Item::allows_all(features, used),
             item: Item {
-                label: Label::of_judged(label),
+                label: Label::of_byte(label),
                 features,
             },
         }

@@ -87,7 +87,7 @@ pub fn fetch_label(file: &[u8], number: usize) -> Label
     requires { ⌜ Stored (now file) number ⌝ }
     ensures { λ r. ⌜ r ≡ labelAt (now (file .entry)) number ⌝ }
 {
-    Label::of_judged(file[start(number) + layout::LABEL])
+    Label::of_byte(file[start(number) + layout::LABEL])
 }
 
 // The item of a record that was judged. Nobody asks here whether it is allowed, and the compiler leaves that out.

@@ -10,21 +10,21 @@ use Rattle.training_file.proofs.record.fetch_label.Tie as tie
 start-requires : tie.Need-start-requires
 start-requires c κs = search needs
 
-add-of-judged : tie.Need-add-of-judged
-add-of-judged c = search needs
+add-of-byte : tie.Need-add-of-byte
+add-of-byte c = search needs
 
-shared-slice-read-of-judged : tie.Need-shared-slice-read-of-judged
-shared-slice-read-of-judged c = search needs
+shared-slice-read-of-byte : tie.Need-shared-slice-read-of-byte
+shared-slice-read-of-byte c = search needs
 
-of-judged-requires : tie.Need-of-judged-requires
-of-judged-requires c κs = search needs
+of-byte-requires : tie.Need-of-byte-requires
+of-byte-requires c κs = search needs
 
 returns : tie.Need-returns
 returns c =
-    c .of-judged .ensures
+    c .of-byte .ensures
     ∙ ap (λ (s : ℕ). labelOfByte (byteAt (c .before .before .before .before .args .file .now) (s + 2))) (c .before .before .start .ensures)
 
 pub fetch-label-spec : {M : Type 1} → statement M
 fetch-label-spec =
     tie.close
-    (tie.spec start-requires add-of-judged shared-slice-read-of-judged of-judged-requires returns)
+    (tie.spec start-requires add-of-byte shared-slice-read-of-byte of-byte-requires returns)
