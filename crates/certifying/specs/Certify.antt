@@ -5,8 +5,7 @@ use Prim.Native.Nat.{ℕ}
 use Rattle.training_file.specs.declared.refusal.Refusal.{Refusal}
 use Rattle.training_file.specs.Refusal.{noRefusal}
 use Rattle.reading.specs.Reading.{Reading, refused, accepted, reading}
-use Rattle.dual_problem.specs.Problem.{BoundedDistance, Problem, bLow, bUp, problem}
-use Rattle.dual_problem.specs.Items.{at}
+use Rattle.dual_problem.specs.Problem.{BoundedDistance, Problem, bLow, bUp, problem, at}
 use Rattle.certifying.specs.declared.certify.Certified.{Certified}
 use Rattle.certifying.specs.declared.certify.Certified.the-variants.{Refused, Found}
 use Rattle.certifying.specs.declared.certify.Thresholds.{Thresholds}

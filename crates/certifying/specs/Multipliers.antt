@@ -10,8 +10,7 @@ use Rattle.integers.specs.Places.{all}
 use Rattle.integers.specs.Sum.{sum}
 use Rattle.training_file.specs.declared.refusal.Refusal.{Refusal}
 use Rattle.training_file.specs.Refusal.{noRefusal, refusal}
-use Rattle.dual_problem.specs.Problem.{Problem, y}
-use Rattle.dual_problem.specs.Items.{at}
+use Rattle.dual_problem.specs.Problem.{Problem, y, at}
 use Rattle.certifying.specs.declared.multipliers.Judgement.{Judgement}
 use Rattle.certifying.specs.declared.multipliers.Judgement.the-variants.{Refused, Feasible}
 

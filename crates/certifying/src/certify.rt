@@ -4,7 +4,8 @@
 ghost use mathlib.Core.Path.{_≡_};
 ghost use Rattle.training_file.specs.Parameters.{Ranges};
 ghost use Rattle.reading.specs.Reading.{reading};
-ghost use Rattle.dual_problem.specs.Items.{Listed, MultipliersListed, at, problemOf};
+ghost use Rattle.dual_problem.specs.Items.{Listed, MultipliersListed, problemOf};
+ghost use Rattle.dual_problem.specs.Problem.{at};
 ghost use Rattle.certifying.specs.Certify.{CertifiedDistance, certifiedRefusal, certifyItems, certifying, thresholdsOf};
 use super::multipliers::Judgement;
 use super::multipliers::judge;

@@ -1,41 +1,24 @@
--- What the stages of reading answer that walk the chain, each by the definition that it works out, and what a later stage relies on.
--- `countRefusal` takes the refusal out of a count. Assumes nothing.
+-- What the stages of reading answer that walk the chain, each by the definition that it works out, and what a later stage relies on. Assumes
+-- nothing.
 use mathlib.Core.Path.{_≡_}
-use mathlib.Core.Bool.{Bool, cond}
+use mathlib.Core.Bool.{cond}
 use mathlib.Core.List.{List, [], _++_, map}
-use Prim.Native.Nat.{ℕ, _+_, _*_, _≤_}
+use Prim.Native.Nat.{ℕ, _+_}
 use lib.Dec.{leb, eqb}
 use lib.ListN.{length, take, drop}
-use Rattle.training_file.specs.declared.refusal.Refusal.{Refusal}
 use Rattle.training_file.specs.declared.item.Label.the-variants.{LookedUp}
-use Rattle.training_file.specs.Refusal.{noRefusal, refusal, refusalAt}
+use Rattle.training_file.specs.Refusal.{refusalAt}
 use Rattle.training_file.specs.Layout.{nextOf, recordsStored}
-use Rattle.training_file.specs.Parameters.{recordsMost}
-use Rattle.training_file.specs.Record.{itemAt, recordAllowed}
-use Rattle.chain.specs.declared.count.Count.{Count}
-use Rattle.chain.specs.declared.count.Count.the-variants as count
+use Rattle.training_file.specs.Item.{labelled}
+use Rattle.training_file.specs.Header.{WholeFile}
+use Rattle.training_file.specs.Record.{every, itemAt, recordAllowed}
+use Rattle.training_file.specs.Answers.{countIf}
+use Rattle.training_file.specs.declared.count.Count.{Count}
+use Rattle.training_file.specs.declared.count.Count.the-variants as count
 use Rattle.chain.specs.declared.step.Step.{Step}
 use Rattle.chain.specs.declared.step.Step.the-variants.{Ended, Over, Next}
 use Rattle.chain.specs.Walk.{Walk, broken, ends}
 use Rattle.chain.specs.Chain.{chainOf}
-use Rattle.chain.specs.Records.{every, labelled}
-
--- ---- counts
-
--- a count, or a refusal where the test fails
-abbrev pub countIf : Bool → ℕ → ℕ → Count
-countIf test number n = cond test (count.Counted n) (count.Refused (refusal number))
-
-abbrev pub countRefusal : Count → Refusal
-countRefusal (count.Refused why) = why
-countRefusal (count.Counted n) = noRefusal
-
--- ---- what stage 1 tells: the file's length
-
--- the file has the length of its header and the records stored
-pub record WholeFile (file : List ℕ) : Type 0 where
-  pub most : recordsStored file ≤ recordsMost
-  pub whole : length file ≡ 32 + 20 * recordsStored file
 
 -- ---- stage 3: the number of items
 

@@ -2,7 +2,8 @@
 
 ghost use mathlib.Core.Path.{_≡_};
 ghost use Rattle.training_file.specs.Layout.{firstRecord};
-ghost use Rattle.chain.specs.Stages.{WholeFile, stepAt, stepNext};
+ghost use Rattle.training_file.specs.Header.{WholeFile};
+ghost use Rattle.chain.specs.Stages.{stepAt, stepNext};
 use training_file::bytes::u16_at;
 use training_file::layout;
 use training_file::record;

@@ -6,7 +6,8 @@
 ghost use mathlib.Core.Path.{_≡_};
 ghost use Prim.Native.Nat.{_+_, _<_, _^_};
 ghost use Rattle.training_file.specs.Layout.{firstRecord};
-ghost use Rattle.chain.specs.Stages.{WholeFile, stepAt, stepNext};
+ghost use Rattle.training_file.specs.Header.{WholeFile};
+ghost use Rattle.chain.specs.Stages.{stepAt, stepNext};
 use super::step;
 use super::step::Step;
 

@@ -2,11 +2,12 @@
 // records, and once to write down its order. Each step is the walker's.
 
 ghost use mathlib.Core.Path.{_≡_};
+ghost use Rattle.training_file.specs.Header.{WholeFile};
 ghost use Rattle.chain.specs.Chain.{chainOf};
-ghost use Rattle.chain.specs.Stages.{Chained, WholeFile, judgeAnswer, orderOf, tableWith, walkAnswer};
-use super::count::Count;
+ghost use Rattle.chain.specs.Stages.{Chained, judgeAnswer, orderOf, tableWith, walkAnswer};
 use super::step::Step;
 use super::walker;
+use training_file::count::Count;
 use training_file::item::Item;
 use training_file::item::LabelAnswer;
 use training_file::range::lesser;

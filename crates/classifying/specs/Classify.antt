@@ -13,13 +13,12 @@ use Rattle.training_file.specs.declared.parameters.Parameters.{Parameters}
 use Rattle.training_file.specs.declared.item.Item.{Item}
 use Rattle.training_file.specs.declared.refusal.Refusal.{Refusal}
 use Rattle.training_file.specs.Refusal.{noRefusal, refusal}
-use Rattle.training_file.specs.Item.{featureAllowed}
-use Rattle.reading.specs.Calls.{itemIn}
+use Rattle.training_file.specs.Item.{featureAllowed, itemIn}
 use Rattle.reading.specs.Reading.{Reading, refused, accepted, reading}
 use Rattle.dual_problem.specs.Size.{gradientMost}
 use Rattle.dual_problem.specs.Kernel.{kernelBetween}
-use Rattle.dual_problem.specs.Problem.{problem}
-use Rattle.dual_problem.specs.Items.{MultipliersListed, at, weighedSum}
+use Rattle.dual_problem.specs.Problem.{problem, at}
+use Rattle.dual_problem.specs.Items.{MultipliersListed, weighedSum}
 use Rattle.certifying.specs.declared.multipliers.Judgement.{Judgement}
 use Rattle.certifying.specs.declared.multipliers.Judgement.the-variants as judged
 use Rattle.certifying.specs.declared.certify.Thresholds.{Thresholds}

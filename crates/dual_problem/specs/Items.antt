@@ -3,23 +3,20 @@ use mathlib.Core.Path.{_≡_}
 use mathlib.Core.List.{List}
 use Prim.Native.Nat.{ℕ, _*_, _≤_, _<_}
 use lib.IntN.{ℤ, pos, _*ℤ_}
-use lib.ListN.{length, getD}
+use lib.ListN.{length}
 use Rattle.integers.specs.Sum.{sum}
 use Rattle.training_file.specs.declared.parameters.Parameters.{Parameters}
 use Rattle.training_file.specs.Parameters.{ceilingMost, gridMost, recordsMost}
 use Rattle.training_file.specs.Layout.{featureCount}
+use Rattle.training_file.specs.Item.{itemIn}
 use Rattle.reading.specs.Reading.{reading}
-use Rattle.reading.specs.Calls.{Tabled, itemIn, itemsIn}
+use Rattle.reading.specs.Calls.{Tabled, itemsIn}
 use Rattle.dual_problem.specs.Kernel.{FeaturesInRange, kernelBetween}
-use Rattle.dual_problem.specs.Problem.{Problem, problem, y}
+use Rattle.dual_problem.specs.Problem.{Problem, at, problem, y}
 
 -- the problem of a file's items
 abbrev pub problemOf : List ℕ → Parameters → Problem
 problemOf file p = problem p (itemsIn (reading file))
-
--- the multiplier at a place
-abbrev pub at : List ℕ → ℕ → ℕ
-at a i = getD a i 0
 
 -- the kernel value of a list of features with the item at a place
 abbrev pub kernelWith : List ℕ → Parameters → List ℤ → ℕ → ℤ

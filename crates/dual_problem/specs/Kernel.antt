@@ -10,8 +10,7 @@ use Rattle.training_file.specs.declared.parameters.Kernel.{Kernel}
 use Rattle.training_file.specs.declared.parameters.Kernel.the-variants.{Linear, Square, Overlap}
 use Rattle.training_file.specs.declared.parameters.Parameters.{Parameters}
 use Rattle.training_file.specs.declared.item.Item.{Item}
-use Rattle.training_file.specs.Item.{featureMost}
-use Rattle.reading.specs.Calls.{itemIn}
+use Rattle.training_file.specs.Item.{featureMost, itemIn}
 
 -- the sum over the first d features of what f makes of the two values
 abbrev pub overFeatures : (ℤ → ℤ → ℤ) → ℕ → List ℤ → List ℤ → ℤ

@@ -7,7 +7,7 @@ use mathlib.Core.List.{List}
 use Prim.Native.Nat.{ℕ, _*_, _/_, _≤_, _<_}
 use lib.Dec.{eqb, ltb}
 use lib.IntN.{ℤ, pos, negsuc, _+ℤ_, _-ℤ_, _*ℤ_}
-use lib.ListN.{length}
+use lib.ListN.{length, getD}
 use lib.Signed.{_≤ℤ_}
 use Rattle.integers.specs.Sum.{sum}
 use Rattle.integers.specs.Extremum.{least, greatest}
@@ -15,8 +15,7 @@ use Rattle.training_file.specs.declared.parameters.Parameters.{Parameters}
 use Rattle.training_file.specs.declared.item.Item.{Item}
 use Rattle.training_file.specs.declared.item.Label.{Label}
 use Rattle.training_file.specs.declared.item.Label.the-variants.{LookedUp, PassedOver}
-use Rattle.training_file.specs.Item.{opposite}
-use Rattle.reading.specs.Calls.{itemIn}
+use Rattle.training_file.specs.Item.{opposite, itemIn}
 use Rattle.dual_problem.specs.Kernel.{kernelBetween}
 
 -- what training works on: the number of items, their labels, their kernel values, S, and the ceiling of each item
@@ -35,6 +34,10 @@ sign PassedOver = negsuc 0
 -- y of the item at a place
 abbrev pub y : Problem → ℕ → ℤ
 y P i = sign (P .label i)
+
+-- a_i, the multiplier at a place of a list
+abbrev pub at : List ℕ → ℕ → ℕ
+at a i = getD a i 0
 
 -- "Feasible: 0 ≤ a_i ≤ c for each item, and the sum of a_i × y_i is 0."
 pub record Feasible (P : Problem) (a : ℕ → ℕ) : Type 0 where

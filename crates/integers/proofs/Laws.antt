@@ -8,6 +8,7 @@ pub mod Order
 pub mod Zero
 pub mod Sum
 pub mod Bounds
+pub mod Sign
 pub mod Places
 pub mod Written
 pub mod Extremum

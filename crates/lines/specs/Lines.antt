@@ -8,9 +8,10 @@ use Rattle.training_file.specs.declared.item.Item.{Item}
 use Rattle.training_file.specs.declared.refusal.Refusal.{Refusal}
 use Rattle.training_file.specs.declared.item.Label.{Label}
 use Rattle.training_file.specs.declared.item.Label.the-variants.{LookedUp, PassedOver}
+use Rattle.training_file.specs.Item.{itemIn}
 use Rattle.reading.specs.Reading.{reading}
-use Rattle.reading.specs.Calls.{itemIn, itemsIn, orderIn}
-use Rattle.dual_problem.specs.Items.{at}
+use Rattle.reading.specs.Calls.{itemsIn, orderIn}
+use Rattle.dual_problem.specs.Problem.{at}
 use Rattle.smo.specs.declared.ending.Ending.{Ending}
 use Rattle.smo.specs.declared.ending.Ending.the-variants.{Converged, Stuck, Spent}
 use Rattle.smo.specs.declared.run.Trained.{Trained}

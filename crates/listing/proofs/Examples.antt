@@ -9,11 +9,10 @@ use Rattle.integers.specs.Extremum.{extreme, first}
 use Rattle.integers.specs.Places.{all}
 use Rattle.training_file.specs.Refusal.{refusal, refusalAt}
 use Rattle.training_file.specs.Parameters.{parametersAllowed}
-use Rattle.training_file.specs.Item.{featuresAllowed}
-use Rattle.training_file.specs.Record.{recordAllowed}
+use Rattle.training_file.specs.Item.{featuresAllowed, labelled}
+use Rattle.training_file.specs.Record.{recordAllowed, every}
+use Rattle.training_file.specs.Header.{headerAllowed, lengthAllowed}
 use Rattle.chain.specs.Walk.{recordsMet}
-use Rattle.chain.specs.Records.{every, labelled}
-use Rattle.reading.specs.Header.{headerAllowed, lengthAllowed}
 use Rattle.reading.specs.Reading.{reading, refused}
 use Rattle.reading.proofs.Examples.{sample}
 use Rattle.dual_problem.specs.Problem.{gradient, doubleSum, objective}

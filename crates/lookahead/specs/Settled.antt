@@ -15,14 +15,12 @@ use Rattle.integers.specs.Written.{written}
 use Rattle.training_file.specs.declared.refusal.Refusal.{Refusal}
 use Rattle.training_file.specs.Refusal.{refusal, refusalAt}
 use Rattle.training_file.specs.Parameters.{parametersAllowed}
-use Rattle.training_file.specs.Item.{featuresAllowed}
-use Rattle.training_file.specs.Record.{recordAllowed}
+use Rattle.training_file.specs.Item.{featuresAllowed, labelled}
+use Rattle.training_file.specs.Record.{recordAllowed, every}
+use Rattle.training_file.specs.Header.{headerAllowed, lengthAllowed}
 use Rattle.chain.specs.Walk.{recordsMet}
-use Rattle.chain.specs.Records.{every, labelled}
-use Rattle.reading.specs.Header.{headerAllowed, lengthAllowed}
 use Rattle.reading.specs.Reading.{Reading, refused, accepted, reading}
-use Rattle.dual_problem.specs.Problem.{Problem, problem, gradient, doubleSum, objective}
-use Rattle.dual_problem.specs.Items.{at}
+use Rattle.dual_problem.specs.Problem.{Problem, problem, gradient, doubleSum, objective, at}
 use Rattle.certifying.specs.declared.certify.Certified.{Certified}
 use Rattle.certifying.specs.declared.certify.Certified.the-variants as certified
 use Rattle.certifying.specs.Certify.{certifying}

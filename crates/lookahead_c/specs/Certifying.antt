@@ -5,8 +5,7 @@ use Rattle.training_file.specs.declared.parameters.Parameters.{Parameters}
 use Rattle.training_file.specs.declared.item.Item.{Item}
 use Rattle.training_file.specs.declared.refusal.Refusal.{Refusal}
 use Rattle.reading.specs.Reading.{Reading, refused, accepted}
-use Rattle.dual_problem.specs.Problem.{BoundedDistance, problem}
-use Rattle.dual_problem.specs.Items.{at}
+use Rattle.dual_problem.specs.Problem.{BoundedDistance, problem, at}
 use Rattle.certifying.specs.declared.certify.Certified.{Certified}
 use Rattle.certifying.specs.declared.certify.Certified.the-variants.{Refused, Found}
 use Rattle.certifying.specs.declared.certify.Thresholds.{Thresholds}

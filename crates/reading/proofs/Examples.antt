@@ -9,12 +9,11 @@ use Rattle.integers.specs.Places.{all}
 use Rattle.training_file.specs.declared.parameters.Kernel.the-variants.{Linear}
 use Rattle.training_file.specs.declared.item.Label.the-variants.{LookedUp, PassedOver}
 use Rattle.training_file.specs.Parameters.{parametersAllowed}
-use Rattle.training_file.specs.Item.{featuresAllowed}
+use Rattle.training_file.specs.Item.{featuresAllowed, labelled}
 use Rattle.training_file.specs.Refusal.{refusal, refusalAt}
-use Rattle.training_file.specs.Record.{recordAllowed}
+use Rattle.training_file.specs.Record.{recordAllowed, every}
+use Rattle.training_file.specs.Header.{headerAllowed, lengthAllowed}
 use Rattle.chain.specs.Walk.{recordsMet}
-use Rattle.chain.specs.Records.{every, labelled}
-use Rattle.reading.specs.Header.{headerAllowed, lengthAllowed}
 use Rattle.reading.specs.Reading.{Reading, accepted, reading, refused}
 
 -- "three records, first 3, record 3 (+, feature 1) with next 1, record 1 (−, feature −1) with next 0, record 2 spare, d 1,

@@ -4,7 +4,6 @@ use mathlib.Core.List.{List, []}
 use Prim.Native.Nat.{ℕ, _<_}
 use lib.ListN.{length, getD}
 use Rattle.training_file.specs.declared.parameters.Parameters.{Parameters}
-use Rattle.training_file.specs.declared.item.Label.the-variants.{PassedOver}
 use Rattle.training_file.specs.declared.item.Item.{Item}
 use Rattle.training_file.specs.declared.refusal.Refusal.{Refusal}
 use Rattle.training_file.specs.Refusal.{noRefusal}
@@ -43,10 +42,6 @@ pub record Read (file : List ℕ) (p : Parameters) (n : ℕ) : Type 0 where
   pub items : List Item
   pub is : reading file ≡ accepted p order items
   pub counted : n ≡ length items
-
--- the item at a place of a list, counted from 0; past its end, one without features
-abbrev pub itemIn : List Item → ℕ → Item
-itemIn items place = getD items place (record { label = PassedOver; features = [] })
 
 -- what fetching an item by its place relies on: the place is one of an accepted file, and the table has its record number
 pub record Tabled (file table : List ℕ) (place : ℕ) : Type 0 where

@@ -1,19 +1,17 @@
 -- What a training file says: the main definition of this crate (document 01, "The training file" and refusals 1 to 5; document 02, request
 -- (k), and 16). Assumes nothing.
-use mathlib.Core.Bool.{Bool, true, false, _&&_}
+use mathlib.Core.Bool.{Bool, true, false}
 use mathlib.Core.List.{List, map}
 use Prim.Native.Nat.{ℕ}
-use lib.Dec.{leb}
 use Rattle.training_file.specs.declared.parameters.Parameters.{Parameters}
-use Rattle.training_file.specs.declared.item.Label.the-variants.{LookedUp, PassedOver}
 use Rattle.training_file.specs.declared.item.Item.{Item}
 use Rattle.training_file.specs.declared.refusal.Refusal.{Refusal}
 use Rattle.training_file.specs.Refusal.{refusal, refusalAt}
-use Rattle.training_file.specs.Record.{itemAt, recordAllowed}
+use Rattle.training_file.specs.Record.{itemAt, recordAllowed, every}
+use Rattle.training_file.specs.Item.{bothLabels}
+use Rattle.training_file.specs.Header.{headerAllowed, lengthAllowed, parametersOf}
 use Rattle.chain.specs.Walk.{Walk, broken, ends}
 use Rattle.chain.specs.Chain.{chainOf}
-use Rattle.chain.specs.Records.{every, labelled}
-use Rattle.reading.specs.Header.{headerAllowed, lengthAllowed, parametersOf}
 
 -- A refusal, or the parameters, the record numbers in chain order, and the items in that order.
 pub data Reading : Type 0 where
@@ -24,10 +22,6 @@ pub data Reading : Type 0 where
 abbrev pub unless : ℕ → Bool → Reading → Reading
 unless number true rest = rest
 unless number false rest = refused (refusal number)
-
--- refusal 5: "one label, or both, has no item"
-abbrev pub bothLabels : List Item → Bool
-bothLabels items = leb 1 (labelled LookedUp items) && leb 1 (labelled PassedOver items)
 
 -- 3 and 16: "one walk finds either fault, and both are tested before 4". "4: on the chain, .. The whole chain is walked first." Then 5: an
 -- empty chain has neither label. A record off the chain is not judged.

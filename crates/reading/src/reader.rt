@@ -2,11 +2,12 @@
 // crates above, which have read the file.
 
 ghost use mathlib.Core.Path.{_≡_};
+ghost use Rattle.training_file.specs.Item.{itemIn};
 ghost use Rattle.reading.specs.Reading.{reading};
-ghost use Rattle.reading.specs.Calls.{fileRefusal, Tabled, itemIn, itemsIn, fileAnswer, tableAfter};
-use super::header;
-use chain::count::Count;
+ghost use Rattle.reading.specs.Calls.{fileRefusal, Tabled, itemsIn, fileAnswer, tableAfter};
 use chain::walks;
+use training_file::count::Count;
+use training_file::header;
 use training_file::item::Item;
 use training_file::item::Label;
 use training_file::parameters::Parameters;

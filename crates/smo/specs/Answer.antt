@@ -4,8 +4,8 @@ use Prim.Native.Nat.{ℕ}
 use lib.IntN.{ℤ}
 use Rattle.integers.specs.Written.{written}
 use Rattle.training_file.specs.declared.parameters.Parameters.{Parameters}
-use Rattle.dual_problem.specs.Problem.{Problem, bUp, bLow, gradient}
-use Rattle.dual_problem.specs.Items.{at, problemOf}
+use Rattle.dual_problem.specs.Problem.{Problem, bUp, bLow, gradient, at}
+use Rattle.dual_problem.specs.Items.{problemOf}
 use Rattle.thresholds.specs.declared.extremes.Extremes.{Extremes}
 use Rattle.thresholds.specs.Extremes.{bestValue}
 use Rattle.smo.specs.declared.ending.Ending.{Ending}

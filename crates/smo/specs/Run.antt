@@ -7,8 +7,7 @@ use Prim.Native.Nat.{ℕ, zero, suc, _*_}
 use lib.IntN.{pos, _+ℤ_}
 use lib.ListN.{replicate}
 use lib.Signed.{leZ}
-use Rattle.dual_problem.specs.Problem.{Problem, bUp, bLow}
-use Rattle.dual_problem.specs.Items.{at}
+use Rattle.dual_problem.specs.Problem.{Problem, bUp, bLow, at}
 use Rattle.working_pair.specs.declared.pair.Pair.{Pair}
 use Rattle.working_pair.specs.declared.pair.Pair.the-variants as pair
 use Rattle.working_pair.specs.Step.{moved, amount, workingPair}

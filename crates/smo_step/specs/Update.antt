@@ -10,11 +10,11 @@ use Rattle.training_file.specs.declared.item.Item.{Item}
 use Rattle.training_file.specs.declared.item.Label.{Label}
 use Rattle.training_file.specs.Parameters.{ceilingMost}
 use Rattle.training_file.specs.Layout.{featureCount}
-use Rattle.reading.specs.Calls.{itemIn}
+use Rattle.training_file.specs.Item.{itemIn}
 use Rattle.dual_problem.specs.Size.{gradientMost}
 use Rattle.dual_problem.specs.Kernel.{kernelBetween}
-use Rattle.dual_problem.specs.Problem.{Problem, gradient}
-use Rattle.dual_problem.specs.Items.{Listed, at}
+use Rattle.dual_problem.specs.Problem.{Problem, gradient, at}
+use Rattle.dual_problem.specs.Items.{Listed}
 use Rattle.working_pair.specs.Step.{fall, rise, moved, amount}
 
 -- the multipliers after a step of the pair (i, j)

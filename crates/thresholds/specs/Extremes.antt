@@ -8,8 +8,8 @@ use lib.ListN.{getD}
 use lib.Signed.{ltZ}
 use Rattle.integers.specs.Extremum.{argmin, argmax}
 use Rattle.training_file.specs.declared.parameters.Parameters.{Parameters}
-use Rattle.dual_problem.specs.Problem.{Problem, up, low}
-use Rattle.dual_problem.specs.Items.{at, problemOf}
+use Rattle.dual_problem.specs.Problem.{Problem, up, low, at}
+use Rattle.dual_problem.specs.Items.{problemOf}
 use Rattle.thresholds.specs.declared.extremes.Best.{Best}
 use Rattle.thresholds.specs.declared.extremes.Best.the-variants.{Nothing, At}
 use Rattle.thresholds.specs.declared.extremes.Extremes.{Extremes}

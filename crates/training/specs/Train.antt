@@ -13,8 +13,8 @@ use Rattle.training_file.specs.declared.parameters.Parameters.{Parameters}
 use Rattle.training_file.specs.declared.refusal.Refusal.{Refusal}
 use Rattle.training_file.specs.Refusal.{noRefusal, refusal}
 use Rattle.reading.specs.Reading.{Reading, refused, accepted, reading}
-use Rattle.dual_problem.specs.Problem.{BoundedDistance, Problem, gradient, problem}
-use Rattle.dual_problem.specs.Items.{at, problemOf}
+use Rattle.dual_problem.specs.Problem.{BoundedDistance, Problem, gradient, problem, at}
+use Rattle.dual_problem.specs.Items.{problemOf}
 use Rattle.working_pair.specs.Move.{NoMoveLowers}
 use Rattle.smo.specs.declared.ending.Ending.the-variants.{Stuck}
 use Rattle.smo.specs.declared.run.Trained.{Trained}

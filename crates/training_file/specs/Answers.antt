@@ -1,22 +1,40 @@
--- What the judging constructors and the judging of a record answer: the value, or the refusal; an item, with whether it is allowed.
--- `..Refusal` takes the refusal out of an answer. Assumes nothing.
-use mathlib.Core.Bool.{cond}
+-- What the code answers that judges: the value, or the refusal; an item, with whether it is allowed. `..Refusal` takes the refusal out of an
+-- answer. Assumes nothing.
+use mathlib.Core.Bool.{Bool, cond}
 use mathlib.Core.List.{List}
 use Prim.Native.Nat.{ℕ}
 use lib.IntN.{ℤ}
 use Rattle.training_file.specs.declared.refusal.Refusal.{Refusal}
+use Rattle.training_file.specs.declared.count.Count.{Count}
+use Rattle.training_file.specs.declared.count.Count.the-variants as count
 use Rattle.training_file.specs.declared.parameters.KernelAnswer.{KernelAnswer}
 use Rattle.training_file.specs.declared.parameters.KernelAnswer.the-variants as kernel
-use Rattle.training_file.specs.declared.parameters.Parameters.{Parameters}
 use Rattle.training_file.specs.declared.parameters.ParametersAnswer.{ParametersAnswer}
 use Rattle.training_file.specs.declared.parameters.ParametersAnswer.the-variants as parameters
 use Rattle.training_file.specs.declared.item.ItemAnswer.{ItemAnswer}
 use Rattle.training_file.specs.declared.item.LabelAnswer.{LabelAnswer}
 use Rattle.training_file.specs.declared.item.LabelAnswer.the-variants as label
 use Rattle.training_file.specs.Refusal.{noRefusal, refusal}
-use Rattle.training_file.specs.Parameters.{kernelAllowed, kernelOfByte, parametersAllowed}
+use Rattle.training_file.specs.Layout.{recordsStored}
+use Rattle.training_file.specs.Parameters.{kernelAllowed, kernelOfByte}
 use Rattle.training_file.specs.Item.{itemAllowed, itemOf}
+use Rattle.training_file.specs.Header.{headerAllowed, lengthAllowed, parametersOf}
 use Rattle.training_file.specs.Record.{labelAt, recordAllowed}
+
+-- ---- counts, which several stages answer
+
+-- a count, or a refusal where the test fails
+abbrev pub countIf : Bool → ℕ → ℕ → Count
+countIf test number n = cond test (count.Counted n) (count.Refused (refusal number))
+
+abbrev pub countRefusal : Count → Refusal
+countRefusal (count.Refused why) = why
+countRefusal (count.Counted n) = noRefusal
+
+-- ---- refusal 1: the number of records stored
+
+abbrev pub storedAnswer : List ℕ → Count
+storedAnswer file = countIf (lengthAllowed file) 1 (recordsStored file)
 
 -- ---- refusal 2: "a header field beyond its range"
 
@@ -27,8 +45,8 @@ abbrev pub kernelRefusal : KernelAnswer → Refusal
 kernelRefusal (kernel.Refused why) = why
 kernelRefusal (kernel.Known known) = noRefusal
 
-abbrev pub parametersAnswer : Parameters → ParametersAnswer
-parametersAnswer p = cond (parametersAllowed p) (parameters.Allowed p) (parameters.Refused (refusal 2))
+abbrev pub headerAnswer : List ℕ → ParametersAnswer
+headerAnswer file = cond (headerAllowed file) (parameters.Allowed (parametersOf file)) (parameters.Refused (refusal 2))
 
 abbrev pub parametersRefusal : ParametersAnswer → Refusal
 parametersRefusal (parameters.Refused why) = why

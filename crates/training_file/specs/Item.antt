@@ -1,8 +1,8 @@
 -- An item and its ranges (document 01, "The training file": "An item is its label with sixteen signed features"). Assumes nothing.
 use mathlib.Core.Bool.{Bool, _&&_, cond}
-use mathlib.Core.List.{List}
+use mathlib.Core.List.{List, [], _∷_}
 use Prim.Native.Nat.{ℕ, _+_, _-_}
-use lib.Dec.{eqb}
+use lib.Dec.{leb, eqb}
 use lib.IntN.{ℤ, pos, negℤ}
 use lib.ListN.{getD}
 use lib.Signed.{leZ}
@@ -63,3 +63,18 @@ itemAllowed d byte features = labelAllowed byte && featuresAllowed d features
 -- the item of a label's byte and its features
 abbrev pub itemOf : ℕ → List ℤ → Item
 itemOf byte features = record { label = labelOfByte byte; features = features }
+
+-- ---- lists of items
+
+-- the item at a place of a list, counted from 0; past its end, one without features
+abbrev pub itemIn : List Item → ℕ → Item
+itemIn items place = getD items place (record { label = PassedOver; features = [] })
+
+-- how many items have a label
+unfoldable pub labelled : Label → List Item → ℕ
+labelled label [] = 0
+labelled label (item ∷ items) = same label (item .label) + labelled label items
+
+-- refusal 5: "one label, or both, has no item"
+abbrev pub bothLabels : List Item → Bool
+bothLabels items = leb 1 (labelled LookedUp items) && leb 1 (labelled PassedOver items)

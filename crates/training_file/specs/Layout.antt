@@ -27,6 +27,11 @@ signedByte byte = cond (ltb byte 128) (pos byte) (negsuc (255 - byte))
 abbrev pub signedMost : ℕ
 signedMost = 128
 
+-- the byte that holds a signed number of −128 to 127: each of the two ways is the other's inverse there (`signed-back`, `signed-byte-back`)
+abbrev pub byteOfSigned : ℤ → ℕ
+byteOfSigned (pos n) = n
+byteOfSigned (negsuc k) = 255 - k
+
 -- ---- "The header has 32 bytes."
 
 -- "m, records stored"

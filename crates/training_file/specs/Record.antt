@@ -1,6 +1,6 @@
 -- A record judged and read: refusal 4 of document 01, and the item that the record holds. Assumes nothing.
-use mathlib.Core.Bool.{Bool, _&&_}
-use mathlib.Core.List.{List, map}
+use mathlib.Core.Bool.{Bool, true, _&&_}
+use mathlib.Core.List.{List, [], _∷_, map}
 use Prim.Native.Nat.{ℕ, _+_, _*_, _≤_}
 use lib.Dec.{eqb}
 use lib.IntN.{ℤ}
@@ -18,6 +18,11 @@ featuresAt file r = map signedByte (featureBytes file r)
 -- feature past d not 0"
 unfoldable pub recordAllowed : ℕ → List ℕ → ℕ → Bool
 recordAllowed d file r = eqb (zeroByte file r) 0 && itemAllowed d (labelByte file r) (featuresAt file r)
+
+-- whether a test holds of each of a list, as of the records on the chain
+unfoldable pub every : {A : Type 0} → (A → Bool) → List A → Bool
+every test [] = true
+every test (first ∷ rest) = test first && every test rest
 
 -- the label of a record that is allowed, and its item
 abbrev pub labelAt : List ℕ → ℕ → Label

@@ -1,10 +1,10 @@
-// Numbers out of bytes: little endian, each width from two halves, and the signed byte.
+// Numbers out of bytes: little endian, each width from two halves, and the signed byte, which goes both ways.
 // What they require is met by `reading`, which has judged the file's length.
 
 ghost use mathlib.Core.Path.{_≡_};
 ghost use Prim.Native.Nat.{_+_, _≤_, _<_};
 ghost use lib.ListN.{length};
-ghost use Rattle.training_file.specs.Layout.{le2, le4, le8, signedByte};
+ghost use Rattle.training_file.specs.Layout.{byteOfSigned, le2, le4, le8, signedByte};
 
 // A byte as a u16: the callers' sums then need no fact of the slice.
 fn wide(byte: u8) -> u16
@@ -46,5 +46,16 @@ pub fn signed_byte(byte: u8) -> i8
         byte as i8
     } else {
         -1 - ((255 - byte) as i8)
+    }
+}
+
+// The byte that holds a signed number. Below 0 it is -1 less some k, and no negation could leave the range.
+pub fn byte_of_signed(number: i8) -> u8
+    ensures { λ r. ⌜ r ≡ byteOfSigned number ⌝ }
+{
+    if 0 <= number {
+        number as u8
+    } else {
+        255 - ((-1 - number) as u8)
     }
 }

@@ -2,7 +2,7 @@
 
 ghost use mathlib.Core.Path.{_≡_};
 ghost use Rattle.training_file.specs.Parameters.{byteOfKernel, ceilingsAllowed, parametersAllowed};
-ghost use Rattle.training_file.specs.Answers.{kernelAnswer, kernelRefusal, parametersAnswer, parametersRefusal};
+ghost use Rattle.training_file.specs.Answers.{kernelAnswer, kernelRefusal, parametersRefusal};
 use super::item::Item;
 use super::range::within;
 use super::refusal::Refusal;
@@ -143,7 +143,7 @@ impl Parameters {
     }
 
     // Whether each field is within its range.
-    fn allowed(self) -> bool
+    pub fn allowed(self) -> bool
         ensures { λ r. ⌜ r ≡ parametersAllowed self ⌝ }
     {
         if !within(
@@ -175,41 +175,5 @@ impl Parameters {
             Parameters::MAX_BUDGET as u64,
             self.budget as u64,
         )
-    }
-
-    // The parameters, where each is within its range.
-    pub fn new(
-        used: usize,
-        kernel: Kernel,
-        grid: u32,
-        ceiling: u32,
-        second: u32,
-        tolerance: u64,
-        budget: u32,
-    ) -> ParametersAnswer
-        ensures { λ r.
-            ⌜ r ≡ parametersAnswer (record {
-              used = used;
-              kernel = kernel;
-              grid = grid;
-              ceiling = ceiling;
-              second = second;
-              tolerance = tolerance;
-              budget = budget;
-            }) ⌝ }
-    {
-        let parameters = Parameters {
-            used,
-            kernel,
-            grid,
-            ceiling,
-            second,
-            tolerance,
-            budget,
-        };
-        if !parameters.allowed() {
-            return ParametersAnswer::Refused(Refusal::HEADER);
-        }
-        ParametersAnswer::Allowed(parameters)
     }
 }

@@ -9,10 +9,11 @@ use lib.IntN.{ℤ}
 use lib.ListN.{length}
 use Rattle.integers.specs.Extremum.{first}
 use Rattle.training_file.specs.declared.parameters.Parameters.{Parameters}
+use Rattle.training_file.specs.Item.{itemIn}
 use Rattle.reading.specs.Reading.{reading}
-use Rattle.reading.specs.Calls.{itemIn, itemsIn}
-use Rattle.dual_problem.specs.Problem.{Problem, up}
-use Rattle.dual_problem.specs.Items.{at, problemOf}
+use Rattle.reading.specs.Calls.{itemsIn}
+use Rattle.dual_problem.specs.Problem.{Problem, up, at}
+use Rattle.dual_problem.specs.Items.{problemOf}
 use Rattle.working_pair.specs.declared.pair.Pair.{Pair}
 use Rattle.working_pair.specs.declared.pair.Pair.the-variants as pair
 use Rattle.working_pair.specs.declared.pair.Partner.{Partner}

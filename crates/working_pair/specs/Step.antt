@@ -14,8 +14,7 @@ use Rattle.integers.specs.Extremum.{argmin, argmax, first}
 use Rattle.training_file.specs.declared.item.Label.{Label}
 use Rattle.training_file.specs.declared.item.Label.the-variants.{LookedUp, PassedOver}
 use Rattle.training_file.specs.Item.{opposite}
-use Rattle.dual_problem.specs.Items.{at}
-use Rattle.dual_problem.specs.Problem.{Problem, gradient, up, low, objective}
+use Rattle.dual_problem.specs.Problem.{Problem, gradient, up, low, objective, at}
 
 -- "Take i in the low set and j in the up set, g = G_i − G_j, .."
 abbrev pub slope : Problem → List ℕ → ℕ → ℕ → ℤ

@@ -9,9 +9,9 @@ use Rattle.training_file.specs.declared.refusal.Refusal.{Refusal}
 use Rattle.reading.specs.declared.reader.FileAnswer.the-variants as file-answer
 use Rattle.reading.specs.Reading.{Reading, refused, accepted, reading}
 use Rattle.reading.specs.Calls.{Read, itemsIn, fileAnswer}
-use Rattle.dual_problem.specs.Problem.{problem}
+use Rattle.dual_problem.specs.Problem.{problem, at}
 use Rattle.dual_problem.proofs.Laws.Problem.{problem-gram}
-use Rattle.dual_problem.specs.Items.{at, problemOf}
+use Rattle.dual_problem.specs.Items.{problemOf}
 use Rattle.dual_problem.proofs.Laws.Items.Read.{features-in-range, labels-present}
 use Rattle.dual_problem.proofs.Laws.Problem.Distance.{bounded-distance}
 use Rattle.certifying.specs.declared.certify.Certified.the-variants.{Refused}

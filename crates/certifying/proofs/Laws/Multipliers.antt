@@ -12,8 +12,7 @@ use Rattle.integers.specs.Places.{all}
 use Rattle.integers.proofs.Laws.Zero.{is-zero-true}
 use Rattle.integers.proofs.Laws.Places.{all-holds, all-true}
 use Rattle.training_file.specs.Refusal.{refusal}
-use Rattle.dual_problem.specs.Problem.{Problem, Feasible}
-use Rattle.dual_problem.specs.Items.{at}
+use Rattle.dual_problem.specs.Problem.{Problem, Feasible, at}
 use Rattle.certifying.specs.declared.multipliers.Judgement.{Judgement}
 use Rattle.certifying.specs.declared.multipliers.Judgement.the-variants as judged
 use Rattle.certifying.specs.Multipliers.{balance, judgement}

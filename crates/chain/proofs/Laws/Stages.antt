@@ -17,27 +17,19 @@ use Rattle.training_file.specs.declared.item.Label.the-variants.{LookedUp}
 use Rattle.training_file.specs.Refusal.{refusal, refusalAt}
 use Rattle.training_file.specs.Layout.{firstRecord, labelByte, nextOf, recordsStored}
 use Rattle.training_file.specs.Parameters.{recordsMost}
-use Rattle.training_file.specs.Item.{labelOfByte, same}
-use Rattle.training_file.specs.Record.{Stored, recordAllowed}
-use Rattle.chain.specs.declared.count.Count.the-variants.{Refused, Counted}
+use Rattle.training_file.specs.Item.{labelOfByte, same, labelled}
+use Rattle.training_file.specs.Record.{Stored, recordAllowed, every}
+use Rattle.training_file.specs.declared.count.Count.the-variants.{Refused, Counted}
+use Rattle.training_file.specs.Header.{WholeFile}
+use Rattle.training_file.specs.Answers.{countIf}
 use Rattle.chain.specs.declared.step.Step.the-variants.{Ended, Over, Next}
 use Rattle.chain.specs.Walk.{Walk, Walked, broken, ends, lastOf, ledTo, member}
 use Rattle.chain.specs.Chain.{ChainIn, chainOf}
-use Rattle.chain.specs.Records.{every, labelled}
-use Rattle.chain.specs.Stages.{Chained, WholeFile, countIf, judgeAnswer, orderOf, recordsOf, stepAt, stepNext, tableWith, walkAnswer}
+use Rattle.chain.specs.Stages.{Chained, judgeAnswer, orderOf, recordsOf, stepAt, stepNext, tableWith, walkAnswer}
 use Rattle.chain.proofs.Laws.Walk.{Stops, last-at, last-snoc, led-snoc, member-last, member-other, stops-again, stops-ended, stops-over, walked-more, walked-most, walked-none}
 use Rattle.chain.proofs.Laws.Chain.{chain-ends, stops-chain}
 
 -- ---- what an answer says
-
-module _ (test : Bool) (number n : ℕ) where
-  pub if-counted : (k : ℕ) → countIf test number n ≡ Counted k → (test ≡ true) × (n ≡ k)
-  if-counted k e =
-      let chose = chose-first test (λ q. let z : _≡_ {A = ℕ} 0 1 = cc in omega arith) e in
-      (chose .0, let same = chose .1 in cc)
-
-  pub if-refused : (why : Refusal) → countIf test number n ≡ Refused why → test ≡ false
-  if-refused why e = chose-second test (λ q. let z : _≡_ {A = ℕ} 0 1 = cc in omega arith) e .0
 
 pub walk-counted : (w : Walk) (n : ℕ) → walkAnswer w ≡ Counted n → (w ≡ ends (recordsOf w)) × (n ≡ length (recordsOf w))
 walk-counted (broken number r) n e = let z : _≡_ {A = ℕ} 0 1 = cc in absurd (omega arith)

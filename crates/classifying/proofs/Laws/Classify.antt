@@ -21,15 +21,15 @@ use Rattle.training_file.specs.declared.item.Item.{Item}
 use Rattle.training_file.specs.declared.refusal.Refusal.{Refusal}
 use Rattle.training_file.specs.Refusal.{refusal}
 use Rattle.training_file.specs.Layout.{featureCount}
-use Rattle.training_file.specs.Item.{featureAllowed, featuresAllowed, itemAllowed, labelAllowed, zeroPast}
+use Rattle.training_file.specs.Item.{featureAllowed, featuresAllowed, itemAllowed, labelAllowed, zeroPast, itemIn}
 use Rattle.reading.specs.declared.reader.FileAnswer.the-variants as file-answer
 use Rattle.reading.specs.Reading.{Reading, refused, accepted, reading}
-use Rattle.reading.specs.Calls.{Read, itemIn, itemsIn, fileAnswer}
+use Rattle.reading.specs.Calls.{Read, itemsIn, fileAnswer}
 use Rattle.dual_problem.specs.Kernel.{kernelBetween}
 use Rattle.dual_problem.proofs.Laws.Kernel.{kernelValue-comm, kernelValue-cong}
-use Rattle.dual_problem.specs.Problem.{LabelsPresent, problem}
+use Rattle.dual_problem.specs.Problem.{LabelsPresent, problem, at}
 use Rattle.dual_problem.proofs.Laws.Problem.Zeros.{b-low-zeros, b-up-zeros, zeros-weighed}
-use Rattle.dual_problem.specs.Items.{at, weighedSum}
+use Rattle.dual_problem.specs.Items.{weighedSum}
 use Rattle.dual_problem.specs.Size.{gradientMost, scoreMost, weighedMost}
 use Rattle.dual_problem.proofs.Laws.Items.Read.{labels-present}
 use Rattle.certifying.specs.declared.certify.Thresholds.{Thresholds}

@@ -19,13 +19,14 @@ use Rattle.training_file.specs.declared.item.Label.{Label}
 use Rattle.training_file.specs.declared.item.Label.the-variants.{LookedUp, PassedOver}
 use Rattle.training_file.specs.Parameters.{ceilingMost, gridMost, recordsMost}
 use Rattle.training_file.specs.Layout.{featureCount, signedMost}
+use Rattle.training_file.specs.Item.{itemIn}
 use Rattle.reading.specs.Reading.{reading}
-use Rattle.reading.specs.Calls.{itemIn, itemsIn}
+use Rattle.reading.specs.Calls.{itemsIn}
 use Rattle.dual_problem.specs.Size.{featureSumMost, gapMost, gradientMost, kernelMost, termMost}
 use Rattle.dual_problem.specs.Kernel.{largestFeatureSum, largestKernel}
 use Rattle.dual_problem.proofs.Laws.Kernel.{kernel-bound}
-use Rattle.dual_problem.specs.Problem.{Problem, sign, y, gap, gradient, notBelowZero, up, low, bUp, bLow}
-use Rattle.dual_problem.specs.Items.{Listed, MultipliersListed, at, problemOf}
+use Rattle.dual_problem.specs.Problem.{Problem, sign, y, gap, gradient, notBelowZero, up, low, bUp, bLow, at}
+use Rattle.dual_problem.specs.Items.{Listed, MultipliersListed, problemOf}
 
 sign-size : (l : Label) → natAbs (sign l) ≤ 1
 sign-size LookedUp = le-refl 1

@@ -20,7 +20,7 @@ use Rattle.training_file.specs.declared.parameters.Kernel.{Kernel}
 use Rattle.training_file.specs.declared.parameters.Kernel.the-variants.{Linear, Square, Overlap}
 use Rattle.training_file.specs.declared.item.Item.{Item}
 use Rattle.training_file.specs.Layout.{signedMost}
-use Rattle.reading.specs.Calls.{itemIn}
+use Rattle.training_file.specs.Item.{itemIn}
 use Rattle.dual_problem.specs.Size.{kernelMost}
 use Rattle.dual_problem.specs.Kernel.{FeaturesInRange, kernelValue, largestFeatureSum, largestKernel, linear, overFeatures, raisedBy, raisedFeature, smallerRaised, summand}
 use Rattle.dual_problem.proofs.Laws.Kernel.Smaller.{overlap-gram, smaller-comm, smaller-either}

@@ -14,13 +14,14 @@ use Rattle.integers.specs.Written.{written}
 use Rattle.integers.proofs.Laws.Written.{written-at}
 use Rattle.training_file.specs.Refusal.{refusal}
 use Rattle.training_file.specs.Parameters.{recordsMost}
+use Rattle.training_file.specs.Item.{itemIn}
 use Rattle.reading.specs.Reading.{Reading, refused, accepted, reading}
 use Rattle.reading.proofs.Laws.Reading.{accepted-is}
-use Rattle.reading.specs.Calls.{Read, itemIn, itemsIn, orderIn, fileAnswer, tableAfter}
+use Rattle.reading.specs.Calls.{Read, itemsIn, orderIn, fileAnswer, tableAfter}
 use Rattle.reading.proofs.Laws.Reading.Accepted.{accepted-ranges, items-counted, items-most, numbers-within}
-use Rattle.dual_problem.specs.Problem.{problem}
+use Rattle.dual_problem.specs.Problem.{problem, at}
 use Rattle.dual_problem.proofs.Laws.Problem.Ceilings.{feasible-most}
-use Rattle.dual_problem.specs.Items.{Listed, at}
+use Rattle.dual_problem.specs.Items.{Listed}
 use Rattle.dual_problem.proofs.Laws.Items.Read.{read-listed}
 use Rattle.smo.specs.Run.{training}
 use Rattle.smo.specs.Answer.{trainedOf}

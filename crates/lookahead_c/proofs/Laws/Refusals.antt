@@ -20,8 +20,7 @@ use Rattle.reading.specs.declared.reader.FileAnswer.the-variants as read
 use Rattle.reading.specs.Reading.{Reading, refused, accepted, reading}
 use Rattle.reading.specs.Calls.{fileAnswer, fileRefusal}
 use Rattle.reading.proofs.Laws.Reading.Fault.{refused-within}
-use Rattle.dual_problem.specs.Problem.{Problem, problem}
-use Rattle.dual_problem.specs.Items.{at}
+use Rattle.dual_problem.specs.Problem.{Problem, problem, at}
 use Rattle.certifying.specs.declared.certify.Certified.{Certified}
 use Rattle.certifying.specs.declared.certify.Certified.the-variants as certified
 use Rattle.certifying.specs.declared.certify.Thresholds.{Thresholds}

@@ -8,12 +8,12 @@ use lib.Seq.{take-all}
 use Rattle.training_file.specs.declared.refusal.Refusal.{Refusal}
 use Rattle.training_file.specs.declared.parameters.Parameters.{Parameters}
 use Rattle.training_file.specs.declared.item.Item.{Item}
+use Rattle.training_file.proofs.Laws.Header.{allowed-whole}
 use Rattle.chain.specs.Walk.{ends}
 use Rattle.chain.specs.Stages.{Chained, orderOf, recordsOf, tableWith}
 use Rattle.reading.specs.declared.reader.FileAnswer.the-variants as outcome
 use Rattle.reading.specs.Reading.{Reading, accepted, reading, refused}
 use Rattle.reading.specs.Calls.{Tabled, itemsIn, orderIn, fileAnswer, tableAfter}
-use Rattle.reading.proofs.Laws.Header.{allowed-whole}
 use Rattle.reading.proofs.Laws.Reading.{AcceptedFile, accepted-is}
 
 module _ (file : List ℕ) (p : Parameters) (rs : List ℕ) (items : List Item) (a : AcceptedFile file p rs items) where

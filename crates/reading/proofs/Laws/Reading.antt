@@ -3,25 +3,19 @@ pub mod Accepted
 pub mod Fault
 pub mod Spare
 use mathlib.Core.Path.{_≡_, refl, sym, ap, ap₂, _∙_}
-use mathlib.Core.Bool.{Bool, true, false, and-false}
-use mathlib.Core.List.{List, [], _∷_, map}
-use Prim.Native.Nat.{ℕ, _+_}
+use mathlib.Core.Bool.{Bool, true, false}
+use mathlib.Core.List.{List, map}
+use Prim.Native.Nat.{ℕ}
 use native.Mathlib.Omega.{arith}
-use lib.Dec.{leb}
-use lib.ListN.{length}
-use borrow.Author.Tests.{le-leb, lt-leb}
 use Rattle.training_file.specs.declared.parameters.Parameters.{Parameters}
-use Rattle.training_file.specs.declared.item.Label.{Label}
-use Rattle.training_file.specs.declared.item.Label.the-variants.{LookedUp, PassedOver}
 use Rattle.training_file.specs.declared.item.Item.{Item}
 use Rattle.training_file.specs.Refusal.{refusal, refusalAt}
-use Rattle.training_file.specs.Item.{same}
-use Rattle.training_file.specs.Record.{itemAt, recordAllowed}
+use Rattle.training_file.specs.Item.{bothLabels}
+use Rattle.training_file.specs.Record.{itemAt, recordAllowed, every}
+use Rattle.training_file.specs.Header.{headerAllowed, lengthAllowed, parametersOf}
 use Rattle.chain.specs.Walk.{Walk, broken, ends}
 use Rattle.chain.specs.Chain.{chainOf}
-use Rattle.chain.specs.Records.{every, labelled}
-use Rattle.reading.specs.Header.{headerAllowed, lengthAllowed, parametersOf}
-use Rattle.reading.specs.Reading.{accepted, bothLabels, readChain, reading, refused, unless}
+use Rattle.reading.specs.Reading.{accepted, readChain, reading, refused, unless}
 
 -- ---- the reading by stages
 
@@ -55,29 +49,6 @@ module _ (file : List ℕ) where
           pub reads-all : bothLabels (map (itemAt file) rs) ≡ true
               → reading file ≡ accepted (parametersOf file) rs (map (itemAt file) rs)
           reads-all b = reads-chain ∙ (rw (e, b))
-
--- ---- refusal 5 by the number of items looked up
-
-same-sum : (label : Label) → same LookedUp label + same PassedOver label ≡ 1
-same-sum LookedUp = refl
-same-sum PassedOver = refl
-
-pub labels-sum : (items : List Item) → labelled LookedUp items + labelled PassedOver items ≡ length items
-unfolding labelled
-labels-sum [] = refl
-labels-sum (item ∷ items) = let e = labels-sum items in let s = same-sum (item .label) in omega arith
-
-module _ (items : List Item) where
-  pub labels-none : labelled LookedUp items ≡ 0 → bothLabels items ≡ false
-  labels-none e = rw e
-
-  pub labels-all : labelled LookedUp items ≡ length items → bothLabels items ≡ false
-  labels-all e =
-      rw (lt-leb 1 (labelled PassedOver items) (omega (arith, labels-sum items))) (and-false (leb 1 (labelled LookedUp items)))
-
-  pub labels-both : (labelled LookedUp items ≡ 0 → ⊥) → (labelled LookedUp items ≡ length items → ⊥) → bothLabels items ≡ true
-  labels-both z a =
-      rw (le-leb 1 (labelled LookedUp items) (omega arith), le-leb 1 (labelled PassedOver items) (omega (arith, labels-sum items)))
 
 -- ---- what an accepted file has
 

@@ -9,8 +9,7 @@ use native.Mathlib.Nat.{add-zero}
 use native.Mathlib.Omega.{arith}
 use lib.IntN.{pos, _+ℤ_}
 use lib.Signed.{leZ}
-use Rattle.dual_problem.specs.Problem.{Problem, bUp, bLow}
-use Rattle.dual_problem.specs.Items.{at}
+use Rattle.dual_problem.specs.Problem.{Problem, bUp, bLow, at}
 use Rattle.working_pair.specs.Step.{Candidate, workingPair}
 use Rattle.working_pair.proofs.Laws.Step.WorkingPair.{working-pair-sound}
 use Rattle.working_pair.specs.Pair.{pairOf}

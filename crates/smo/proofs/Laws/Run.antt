@@ -15,10 +15,9 @@ use lib.Signed.{leZ, _≤ℤ_, _<ℤ_, clashℤ}
 use Rattle.integers.proofs.Laws.Linear.{integer, -ℤ-parts, +ℤ-parts}
 use Rattle.integers.proofs.Laws.Order.{leZ-true, leZ-false}
 use Rattle.integers.specs.Gram.{Gram}
-use Rattle.dual_problem.specs.Problem.{BoundedDistance, LabelsPresent, Problem, Feasible, bUp, bLow, objective, gap, notBelowZero}
+use Rattle.dual_problem.specs.Problem.{BoundedDistance, LabelsPresent, Problem, Feasible, bUp, bLow, objective, gap, notBelowZero, at}
 use Rattle.dual_problem.proofs.Laws.Problem.Distance.{bounded-distance}
 use Rattle.dual_problem.proofs.Laws.Problem.Zeros.{zeros-feasible}
-use Rattle.dual_problem.specs.Items.{at}
 use Rattle.working_pair.specs.Step.{Candidate, amount, moved, workingPair}
 use Rattle.working_pair.proofs.Laws.Step.{moved-length, moved-feasible, moves-apart, candidate-moves}
 use Rattle.working_pair.specs.Move.{NoMoveLowers}

@@ -5,8 +5,7 @@ use mathlib.Core.Logic.{_↔_}
 use mathlib.Core.List.{List}
 use Prim.Native.Nat.{ℕ, suc, _+_, _*_, _≤_, _<_}
 use lib.IntN.{ℤ}
-use Rattle.dual_problem.specs.Problem.{BoundedDistance, Problem, bLow, bUp, gap}
-use Rattle.dual_problem.specs.Items.{at}
+use Rattle.dual_problem.specs.Problem.{BoundedDistance, Problem, bLow, bUp, gap, at}
 use Rattle.working_pair.specs.Step.{Candidate}
 use Rattle.working_pair.specs.Move.{NoMoveLowers}
 use Rattle.smo.specs.declared.ending.Ending.{Ending}

@@ -16,13 +16,14 @@ use Rattle.training_file.specs.declared.item.Item.{Item}
 use Rattle.training_file.specs.declared.item.Label.{Label}
 use Rattle.training_file.specs.declared.item.Label.the-variants.{LookedUp, PassedOver}
 use Rattle.training_file.specs.Parameters.{Ranges}
+use Rattle.training_file.specs.Item.{itemIn}
 use Rattle.reading.specs.Reading.{reading}
-use Rattle.reading.specs.Calls.{itemIn, itemsIn}
+use Rattle.reading.specs.Calls.{itemsIn}
 use Rattle.dual_problem.specs.Size.{gradientMost}
-use Rattle.dual_problem.specs.Problem.{Problem, Feasible, gradient}
+use Rattle.dual_problem.specs.Problem.{Problem, Feasible, gradient, at}
 use Rattle.dual_problem.proofs.Laws.Problem.{problem-gram}
 use Rattle.dual_problem.proofs.Laws.Problem.Ceilings.{ceiling-range, feasible-most}
-use Rattle.dual_problem.specs.Items.{MultipliersListed, at, problemOf}
+use Rattle.dual_problem.specs.Items.{MultipliersListed, problemOf}
 use Rattle.dual_problem.proofs.Laws.Items.{gradient-size}
 use Rattle.working_pair.specs.Step.{Candidate, amount, curvature, fall, rise, room, slope}
 use Rattle.working_pair.proofs.Laws.Step.{room-bound, moved-length, moved-feasible, moved-gradient, curvature-nonneg, moves-slope, moves-apart, candidate-moves}

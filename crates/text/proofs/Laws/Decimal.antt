@@ -8,8 +8,8 @@ use native.Mathlib.Decide.{decLe}
 use native.Mathlib.Nat.{div-lt-iff-lt-mul, pow-suc}
 use native.Mathlib.Numerals.{add-one}
 use native.Mathlib.Omega.{arith}
-use borrow.Author.Tests.{le-leb, le-ltb, lt-leb, lt-ltb}
-use lib.IntN.{ℤ, pos, negsuc, natAbs, _-ℤ_}
+use borrow.Author.Tests.{le-leb, le-ltb, lt-ltb}
+use lib.IntN.{ℤ, pos, negsuc, natAbs}
 use lib.Signed.{leZ, mag}
 use lib.ListN.{length, length-append}
 use Rattle.integers.proofs.Laws.Test.{clash}
@@ -45,21 +45,14 @@ unfolding decimal
 decimal-more number l h = digits-more 19 number l ∙ ap (λ d. d ++ ((48 + number % 10) ∷ [])) (sym (digits-places 18 (number / 10) (tenth-below 19 number (omega arith))))
 
 -- ---- signs: what follows the sign of −1 − k is k + 1, and `mag` of it is k
-minus-one-less : (k : ℕ) → negsuc 0 -ℤ negsuc k ≡ pos k
-minus-one-less k = ap (λ b. cond b (negsuc (1 - suc (suc k))) (pos (suc k - 1))) (lt-leb (suc (suc k)) 1 (omega arith)) ∙ ap pos (omega arith)
-
-pub below-zero : (z : ℤ) → leZ (pos 0) z ≡ false → negsuc 0 -ℤ z ≡ pos (mag z)
-below-zero (pos n) h = clash (le-leb 0 n (omega arith)) h
-below-zero (negsuc k) h = minus-one-less k
-
 pub signed-minus : (z : ℤ) → leZ (pos 0) z ≡ false → signedDecimal z ≡ (45 ∷ []) ++ decimal (mag z + 1)
 unfolding signedDecimal
 signed-minus (pos n) h = clash (le-leb 0 n (omega arith)) h
 signed-minus (negsuc k) h = rw add-one
 
-pub signed-plus : (z : ℤ) → leZ (pos 0) z ≡ true → (z ≡ pos (natAbs z)) × (signedDecimal z ≡ decimal (natAbs z))
+pub signed-plus : (z : ℤ) → leZ (pos 0) z ≡ true → signedDecimal z ≡ decimal (natAbs z)
 unfolding signedDecimal
-signed-plus (pos n) h = (refl, refl)
+signed-plus (pos n) h = refl
 signed-plus (negsuc k) h = clash h refl
 
 -- ---- lengths

@@ -9,8 +9,8 @@ use native.Mathlib.Omega.{arith}
 use lib.ListN.{length, take}
 use lib.Seq.{length-take-le, take-all}
 use Rattle.training_file.specs.Refusal.{refusal}
-use Rattle.reading.specs.Header.{lengthAllowed}
-use Rattle.reading.proofs.Laws.Header.{allowed-whole}
+use Rattle.training_file.specs.Header.{lengthAllowed}
+use Rattle.training_file.proofs.Laws.Header.{allowed-whole}
 use Rattle.reading.specs.Reading.{reading, refused}
 use Rattle.reading.proofs.Laws.Reading.{reads-1}
 use Rattle.listing.specs.Listing.{listingOf}

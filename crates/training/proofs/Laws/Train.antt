@@ -19,11 +19,11 @@ use Rattle.training_file.specs.Refusal.{refusal}
 use Rattle.reading.specs.declared.reader.FileAnswer.the-variants as file-answer
 use Rattle.reading.specs.Reading.{Reading, refused, accepted, reading}
 use Rattle.reading.specs.Calls.{Read, itemsIn, fileAnswer}
-use Rattle.dual_problem.specs.Problem.{Problem, Feasible, problem, gradient}
+use Rattle.dual_problem.specs.Problem.{Problem, Feasible, problem, gradient, at}
 use Rattle.dual_problem.proofs.Laws.Problem.{problem-gram}
 use Rattle.dual_problem.proofs.Laws.Problem.Same.{gradient-cong, b-up-cong, b-low-cong}
 use Rattle.dual_problem.proofs.Laws.Problem.Zeros.{zeros-feasible}
-use Rattle.dual_problem.specs.Items.{at, problemOf}
+use Rattle.dual_problem.specs.Items.{problemOf}
 use Rattle.dual_problem.proofs.Laws.Items.Read.{features-in-range, labels-present}
 use Rattle.smo.specs.Run.{run, training, zeros}
 use Rattle.smo.specs.Run.Meaning.{Sound}

@@ -1,23 +1,24 @@
--- Laws of items. Assumes nothing.
+-- Laws of items and of lists of items. Assumes nothing.
 use mathlib.Core.Path.{_≡_, refl, sym}
-use mathlib.Core.Bool.{Bool, true, false}
-use mathlib.Core.List.{List}
-use Prim.Native.Nat.{ℕ, _+_, _-_, _≤_, _<_}
+use mathlib.Core.Bool.{Bool, true, false, and-false}
+use mathlib.Core.List.{List, [], _∷_}
+use Prim.Native.Nat.{ℕ, suc, _+_, _-_, _≤_, _<_, suc-le-suc}
 use native.Mathlib.Decide.{decLt}
 use native.Mathlib.Omega.{arith}
 use lib.Dec.{leb, eqb, lit≤}
 use lib.IntN.{ℤ, pos, negsuc, negℤ, natAbs}
 use lib.ListN.{length, getD, List·getD-eq-default}
 use lib.Signed.{leZ}
-use borrow.Author.Tests.{leb-true, eqb-true, eqb-false}
+use borrow.Author.Tests.{le-leb, lt-leb, leb-true, eqb-true, eqb-false}
 use Rattle.integers.specs.Zero.{isZero}
 use Rattle.integers.proofs.Laws.Test.{&&-both, &&-left, &&-right}
 use Rattle.integers.proofs.Laws.Zero.{is-zero-true}
 use Rattle.integers.proofs.Laws.Places.{all-holds}
 use Rattle.training_file.specs.declared.item.Label.{Label}
 use Rattle.training_file.specs.declared.item.Label.the-variants.{LookedUp, PassedOver}
+use Rattle.training_file.specs.declared.item.Item.{Item}
 use Rattle.training_file.specs.Layout.{featureCount}
-use Rattle.training_file.specs.Item.{byteOfLabel, featureAllowed, featureMost, featuresAllowed, eachFeatureAllowed, labelAllowed, labelOfByte, same, zeroPast}
+use Rattle.training_file.specs.Item.{bothLabels, byteOfLabel, featureAllowed, featureMost, featuresAllowed, eachFeatureAllowed, itemIn, labelAllowed, labelOfByte, labelled, same, zeroPast}
 use Rattle.training_file.proofs.Laws.Parameters.{within-both}
 
 -- ---- labels
@@ -79,3 +80,50 @@ module _ (d : ℕ) (features : List ℤ) (allowed : featuresAllowed d features �
       by : Dec (i < featureCount) → natAbs (getD features i (pos 0)) ≤ featureMost
       by (yes l) = feature-most (getD features i (pos 0)) (in-range i l)
       by (no l) = rw (past-sixteen i (omega arith)) (omega arith)
+
+-- ---- lists of items
+
+same-sum : (label : Label) → same LookedUp label + same PassedOver label ≡ 1
+same-sum LookedUp = refl
+same-sum PassedOver = refl
+
+pub labels-sum : (items : List Item) → labelled LookedUp items + labelled PassedOver items ≡ length items
+unfolding labelled
+labels-sum [] = refl
+labels-sum (item ∷ items) = let e = labels-sum items in let s = same-sum (item .label) in omega arith
+
+-- a label that some item has stands at some place
+labelled-at : (label : Label) (items : List Item) → 1 ≤ labelled label items → (k : ℕ) × (k < length items) × (itemIn items k .label ≡ label)
+unfolding labelled
+labelled-at label [] h = absurd (omega arith)
+labelled-at label (item ∷ items) h = here label (item .label) refl (labelled-at label items) h
+  where
+    here : (a b : Label) → item .label ≡ b
+        → (1 ≤ labelled a items → (k : ℕ) × (k < length items) × (itemIn items k .label ≡ a))
+        → 1 ≤ same a b + labelled a items → (k : ℕ) × (k < suc (length items)) × (itemIn (item ∷ items) k .label ≡ a)
+    here LookedUp LookedUp e rest l = (0, omega arith, e)
+    here PassedOver PassedOver e rest l = (0, omega arith, e)
+    here LookedUp PassedOver e rest l = let r = rest (omega arith) in (suc (r .0), suc-le-suc (r .1), r .2)
+    here PassedOver LookedUp e rest l = let r = rest (omega arith) in (suc (r .0), suc-le-suc (r .1), r .2)
+
+-- refusal 5 by the number of items looked up
+module _ (items : List Item) where
+  pub labels-none : labelled LookedUp items ≡ 0 → bothLabels items ≡ false
+  labels-none e = rw e
+
+  pub labels-all : labelled LookedUp items ≡ length items → bothLabels items ≡ false
+  labels-all e =
+      rw (lt-leb 1 (labelled PassedOver items) (omega (arith, labels-sum items))) (and-false (leb 1 (labelled LookedUp items)))
+
+  pub labels-both : (labelled LookedUp items ≡ 0 → ⊥) → (labelled LookedUp items ≡ length items → ⊥) → bothLabels items ≡ true
+  labels-both z a =
+      rw (le-leb 1 (labelled LookedUp items) (omega arith), le-leb 1 (labelled PassedOver items) (omega (arith, labels-sum items)))
+
+  -- where both labels have an item, each stands at some place
+  module _ (both : bothLabels items ≡ true) where
+    some-labelled : (label : Label) → 1 ≤ labelled label items
+    some-labelled LookedUp = leb-true 1 (labelled LookedUp items) (&&-left (leb 1 (labelled LookedUp items)) (leb 1 (labelled PassedOver items)) both)
+    some-labelled PassedOver = leb-true 1 (labelled PassedOver items) (&&-right (leb 1 (labelled LookedUp items)) (leb 1 (labelled PassedOver items)) both)
+
+    pub labels-at : (label : Label) → (k : ℕ) × (k < length items) × (itemIn items k .label ≡ label)
+    labels-at label = labelled-at label items (some-labelled label)

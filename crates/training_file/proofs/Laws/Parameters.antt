@@ -1,19 +1,16 @@
--- Laws of the parameters: when they are allowed, and what an answer says of its byte or its parameters. Assumes nothing.
+-- Laws of the parameters: when they are allowed, and the bytes of the kernels. Assumes nothing.
 use mathlib.Core.Path.{_≡_, refl, sym}
 use mathlib.Core.Bool.{Bool, true, false, _&&_, and-false}
 use Prim.Native.Nat.{ℕ, _≤_}
 use native.Mathlib.Omega.{arith}
 use lib.Dec.{leb, eqb}
 use borrow.Author.Tests.{leb-true, eqb-true, eqb-false}
-use Rattle.integers.proofs.Laws.Test.{&&-both, chose-first, chose-second}
-use Rattle.training_file.specs.declared.refusal.Refusal.{Refusal}
+use Rattle.integers.proofs.Laws.Test.{&&-both}
 use Rattle.training_file.specs.declared.parameters.Kernel.{Kernel}
 use Rattle.training_file.specs.declared.parameters.Kernel.the-variants.{Linear, Square, Overlap}
-use Rattle.training_file.specs.declared.parameters.KernelAnswer.the-variants.{Refused, Known}
 use Rattle.training_file.specs.declared.parameters.Parameters.{Parameters}
 use Rattle.training_file.specs.Layout.{featureCount}
 use Rattle.training_file.specs.Parameters.{Ranges, budgetMost, byteOfKernel, ceilingMost, ceilingsAllowed, gridMost, kernelAllowed, kernelOfByte, parametersAllowed, toleranceMost, within}
-use Rattle.training_file.specs.Answers.{kernelAnswer}
 
 -- ---- a range
 
@@ -90,13 +87,3 @@ kernel-byte-back byte h = by (eqb byte 0) (eqb byte 1) refl refl
         let not-square = eqb-false byte 1 f in
         let range = leb-true byte 2 h in
         rw (e, f) (omega arith)
-
--- ---- what an answer says of the byte
-
-pub kernel-known : (byte : ℕ) (kernel : Kernel) → kernelAnswer byte ≡ Known kernel → (kernelAllowed byte ≡ true) × (kernelOfByte byte ≡ kernel)
-kernel-known byte kernel e =
-    let chose = chose-first (kernelAllowed byte) (λ q. let z : _≡_ {A = ℕ} 0 1 = cc in omega arith) e in
-    (chose .0, let same = chose .1 in cc)
-
-pub kernel-refused : (byte : ℕ) (why : Refusal) → kernelAnswer byte ≡ Refused why → kernelAllowed byte ≡ false
-kernel-refused byte why e = chose-second (kernelAllowed byte) (λ q. let z : _≡_ {A = ℕ} 0 1 = cc in omega arith) e .0

@@ -1,19 +1,16 @@
 -- Laws of records. Assumes nothing.
 use mathlib.Core.Path.{_≡_, _∙_}
-use mathlib.Core.Bool.{true, false}
-use mathlib.Core.List.{List}
-use Prim.Native.Nat.{ℕ}
+use mathlib.Core.Bool.{Bool, true, false}
+use mathlib.Core.List.{List, [], _∷_}
+use Prim.Native.Nat.{ℕ, zero, suc, _<_}
+use native.Mathlib.Nat.{le-of-suc-le-suc}
 use native.Mathlib.Omega.{arith}
 use lib.Dec.{eqb}
-use lib.ListN.{length, length-map, length-take, length-drop}
-use Rattle.integers.proofs.Laws.Test.{&&-right, chose-first, chose-second}
-use Rattle.training_file.specs.declared.refusal.Refusal.{Refusal}
-use Rattle.training_file.specs.declared.item.Label.{Label}
-use Rattle.training_file.specs.declared.item.LabelAnswer.the-variants.{Refused, Known}
+use lib.ListN.{length, getD, length-map, length-take, length-drop}
+use Rattle.integers.proofs.Laws.Test.{&&-left, &&-right}
 use Rattle.training_file.specs.Layout.{featureBytes, featureCount, labelByte, signedByte, zeroByte}
 use Rattle.training_file.specs.Item.{featuresAllowed, itemAllowed, labelAllowed}
-use Rattle.training_file.specs.Record.{Stored, featuresAt, labelAt, recordAllowed}
-use Rattle.training_file.specs.Answers.{recordAnswer}
+use Rattle.training_file.specs.Record.{Stored, every, featuresAt, recordAllowed}
 
 -- a record that stands whole in the file has its sixteen features
 pub bytes-sixteen : (file : List ℕ) (r : ℕ) → Stored file r → length (featureBytes file r) ≡ featureCount
@@ -37,14 +34,10 @@ module _ (d : ℕ) (file : List ℕ) (r : ℕ) where
   unfolding recordAllowed
   record-features h = &&-right (labelAllowed (labelByte file r)) _ (&&-right (eqb (zeroByte file r) 0) _ h)
 
--- ---- what an answer says of the record
+-- ---- a test that holds of each of a list
 
-module _ (d : ℕ) (file : List ℕ) (r : ℕ) where
-  pub answer-known : (label : Label) → recordAnswer d file r ≡ Known label
-      → (recordAllowed d file r ≡ true) × (labelAt file r ≡ label)
-  answer-known label e =
-      let chose = chose-first (recordAllowed d file r) (λ q. let z : _≡_ {A = ℕ} 0 1 = cc in omega arith) e in
-      (chose .0, let same = chose .1 in cc)
-
-  pub answer-refused : (why : Refusal) → recordAnswer d file r ≡ Refused why → recordAllowed d file r ≡ false
-  answer-refused why e = chose-second (recordAllowed d file r) (λ q. let z : _≡_ {A = ℕ} 0 1 = cc in omega arith) e .0
+pub every-at : {A : Type 0} (test : A → Bool) (none : A) (list : List A) → every test list ≡ true → (k : ℕ) → k < length list → test (getD list k none) ≡ true
+unfolding every
+every-at test none [] h k l = absurd (omega arith)
+every-at test none (first ∷ rest) h zero l = &&-left (test first) (every test rest) h
+every-at test none (first ∷ rest) h (suc k) l = every-at test none rest (&&-right (test first) (every test rest) h) k (le-of-suc-le-suc l)

@@ -23,8 +23,7 @@ use Rattle.integers.proofs.Laws.Gram.{distance-nonneg}
 use Rattle.training_file.specs.declared.item.Label.{Label}
 use Rattle.training_file.specs.declared.item.Label.the-variants.{LookedUp, PassedOver}
 use Rattle.training_file.specs.Item.{opposite}
-use Rattle.dual_problem.specs.Problem.{Problem, Feasible, sign, y, gradient, inUp, inLow, up, low, objective}
-use Rattle.dual_problem.specs.Items.{at}
+use Rattle.dual_problem.specs.Problem.{Problem, Feasible, sign, y, gradient, inUp, inLow, up, low, objective, at}
 use Rattle.working_pair.specs.Step.{slope, curvature, moves, lowered, raised, moved, fall, rise, room, candidate}
 use Rattle.working_pair.specs.Move.{Move}
 use Rattle.working_pair.proofs.Laws.Move.{move-balanced, move-gradient, move-objective}

@@ -5,9 +5,9 @@ use native.Mathlib.Omega.{arith}
 use borrow.Author.Needs.{needs}
 use Rattle.reading.specs.Reading.{reading}
 use Rattle.reading.specs.Calls.{itemsIn}
-use Rattle.dual_problem.specs.Problem.{Problem}
+use Rattle.dual_problem.specs.Problem.{Problem, at}
 use Rattle.dual_problem.proofs.Laws.Problem.Ceilings.{feasible-most}
-use Rattle.dual_problem.specs.Items.{at, problemOf}
+use Rattle.dual_problem.specs.Items.{problemOf}
 use Rattle.certifying.specs.declared.certify.Certified.the-variants.{Refused, Found}
 use Rattle.certifying.specs.Multipliers.{judgementRefusal}
 use Rattle.certifying.proofs.Laws.Multipliers.{judgement-feasible}

@@ -9,8 +9,8 @@ use mir.Syntax.{w64}
 use borrow.Author.Needs.{needs}
 use Rattle.integers.proofs.Laws.Bounds.{reads-element}
 use Rattle.integers.proofs.Laws.Written.{written-at}
-use Rattle.dual_problem.specs.Problem.{Problem, gradient}
-use Rattle.dual_problem.specs.Items.{at, problemOf}
+use Rattle.dual_problem.specs.Problem.{Problem, gradient, at}
+use Rattle.dual_problem.specs.Items.{problemOf}
 use Rattle.thresholds.specs.Extremes.{bestValue}
 use Rattle.thresholds.proofs.Laws.Extremes.{low-value, up-value}
 use Rattle.certifying.proofs.certify.find_thresholds.Statement.{statement}

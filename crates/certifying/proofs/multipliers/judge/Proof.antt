@@ -9,8 +9,8 @@ use mir.Syntax.{w64}
 use Rattle.integers.specs.Zero.{isZero}
 use Rattle.integers.specs.Places.{all}
 use Rattle.integers.proofs.Laws.Zero.{bits-nonzero, bits-zero}
-use Rattle.dual_problem.specs.Problem.{Problem}
-use Rattle.dual_problem.specs.Items.{at, problemOf}
+use Rattle.dual_problem.specs.Problem.{Problem, at}
+use Rattle.dual_problem.specs.Items.{problemOf}
 use Rattle.certifying.proofs.Laws.Multipliers.{judgement-is}
 use Rattle.certifying.proofs.multipliers.judge.Statement.{statement}
 use Rattle.certifying.proofs.multipliers.judge.Tie as tie

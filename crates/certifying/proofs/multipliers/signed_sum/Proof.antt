@@ -11,10 +11,10 @@ use mir.Syntax.{w64}
 use mir.Val.{toZ, ofZ}
 use Rattle.integers.proofs.Laws.Bounds.{+ℤ-bound, fits-width, reads-back, reads-as}
 use Rattle.integers.specs.Sum.{sum}
+use Rattle.training_file.specs.Item.{itemIn}
 use Rattle.reading.specs.Reading.{reading}
-use Rattle.reading.specs.Calls.{itemIn, itemsIn}
-use Rattle.dual_problem.specs.Problem.{sign}
-use Rattle.dual_problem.specs.Items.{at}
+use Rattle.reading.specs.Calls.{itemsIn}
+use Rattle.dual_problem.specs.Problem.{sign, at}
 use Rattle.certifying.proofs.multipliers.signed_sum.Statement.{statement}
 use Rattle.certifying.proofs.multipliers.signed_sum.Tie as tie
 

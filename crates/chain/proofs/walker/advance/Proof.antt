@@ -42,8 +42,9 @@ use denote.Triple.Table.{entered, cited}
 use denote.Triple.Walked.{says, needs, Stays, stay-none, walkOf, goes-none, Walks, ends-at, walked, walk-meets}
 use denote.Exit.{yes}
 use denote.Triple.Clauses.{ensured, lasts}
+use Rattle.training_file.specs.Header.{WholeFile}
 use Rattle.chain.specs.declared.walker.Walker.{Walker}
-use Rattle.chain.specs.Stages.{WholeFile, stepAt, stepNext}
+use Rattle.chain.specs.Stages.{stepAt, stepNext}
 use Rattle.chain.proofs.walker.Walker as T
 use Rattle.chain.proofs.walker.Walker.Laws as T′
 use Rattle.chain.proofs.step.next_at as next

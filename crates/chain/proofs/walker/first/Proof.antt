@@ -38,8 +38,8 @@ use denote.Triple.Walked.{says, needs, Stays, stay-none-slice, walkOf, goes-none
 use denote.Exit.{yes}
 use denote.Triple.Clauses.{ensured, lasts}
 use Rattle.training_file.specs.Layout.{firstRecord}
+use Rattle.training_file.specs.Header.{WholeFile}
 use Rattle.chain.specs.declared.walker.Walker.{Walker}
-use Rattle.chain.specs.Stages.{WholeFile}
 use Rattle.chain.proofs.walker.Walker as T
 use Rattle.chain.proofs.walker.Walker.Laws as T′
 use Rattle.chain.proofs.walker.start as start

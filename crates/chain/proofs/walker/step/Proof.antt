@@ -43,9 +43,10 @@ use denote.Triple.Table.{entered, cited}
 use denote.Triple.Walked.{says, needs, Stays, stay-none, walkOf, goes-none, Walks, ends-at, walked, walk-meets}
 use denote.Exit.{yes}
 use denote.Triple.Clauses.{ensured, lasts}
+use Rattle.training_file.specs.Header.{WholeFile}
 use Rattle.chain.specs.declared.walker.Walker.{Walker}
 use Rattle.chain.specs.declared.step.Step.{Step}
-use Rattle.chain.specs.Stages.{WholeFile, stepAt}
+use Rattle.chain.specs.Stages.{stepAt}
 use Rattle.chain.proofs.walker.Walker as R
 use Rattle.chain.proofs.walker.Walker.Laws as R′
 use Rattle.chain.proofs.step.Step as S

@@ -10,8 +10,8 @@ use Rattle.training_file.specs.Item.{same}
 use Rattle.training_file.specs.Record.{Stored}
 use Rattle.training_file.specs.Answers.{labelRefusal, recordAnswer}
 use Rattle.training_file.proofs.Laws.Item.{same-most}
-use Rattle.training_file.proofs.Laws.Record.{answer-known, answer-refused}
-use Rattle.chain.specs.declared.count.Count.the-variants.{Refused}
+use Rattle.training_file.proofs.Laws.Answers.{record-known, record-refused}
+use Rattle.training_file.specs.declared.count.Count.the-variants.{Refused}
 use Rattle.chain.specs.Stages.{judgeAnswer, orderOf}
 use Rattle.chain.proofs.Laws.Stages.{judge-allowed, judge-none, judge-refused, order-first, order-next, order-stored}
 use Rattle.chain.proofs.walks.judge.Statement.{statement}
@@ -63,7 +63,7 @@ refusal-requires c κs = search needs
 returns : tie.Need-returns Inv-loop μ-loop
 returns c =
     let judged = c .before .before .before in
-    let fails = answer-refused _ _ _ _ (sym (answered judged) ∙ c .before .enum-told .given .1) in
+    let fails = record-refused _ _ _ _ (sym (answered judged) ∙ c .before .enum-told .given .1) in
     ap Refused (c .refusal .ensures ∙ ap labelRefusal (answered judged) ∙ (rw fails))
     ∙ sym (judged .before .before .loop .inv .3 ∙ judge-refused _ _ _ _ _ (place judged) fails)
 
@@ -87,7 +87,7 @@ loop-again c =
     let counted = c .before in
     let m = most counted in
     let judged = counted .before .before .before .before in
-    let allowed = answer-known _ _ _ _ (sym (answered judged) ∙ counted .before .before .answer .given .1) in (
+    let allowed = record-known _ _ _ _ (sym (answered judged) ∙ counted .before .before .answer .given .1) in (
       c .next-from .ensures ∙ order-next _ _ (judged .before .before .before .before .before .pre) _ _ (judged .before .loop-test .taken) (judged .before .before .loop .inv .0),
       omega arith,
       omega arith,

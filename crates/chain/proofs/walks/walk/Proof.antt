@@ -8,7 +8,7 @@ use lib.ListN.{set}
 use borrow.Author.Needs.{needs}
 use Rattle.training_file.specs.Layout.{nextOf, recordsStored}
 use Rattle.training_file.specs.Parameters.{recordsMost}
-use Rattle.chain.specs.declared.count.Count.the-variants.{Refused}
+use Rattle.training_file.specs.declared.count.Count.the-variants.{Refused}
 use Rattle.chain.proofs.Laws.Stages.{Passed, mark-again, mark-left, mark-new, passed-first, passed-last, step-ended, step-next, step-over}
 use Rattle.chain.proofs.walks.walk.Statement.{statement}
 use Rattle.chain.proofs.walks.walk.Tie as tie

@@ -14,7 +14,8 @@ use Rattle.training_file.specs.Refusal.{refusal}
 use Rattle.reading.specs.Reading.{reading}
 use Rattle.reading.specs.Calls.{itemsIn}
 use Rattle.dual_problem.proofs.Laws.Problem.Ceilings.{feasible-most}
-use Rattle.dual_problem.specs.Items.{MultipliersListed, at, problemOf}
+use Rattle.dual_problem.specs.Items.{MultipliersListed, problemOf}
+use Rattle.dual_problem.specs.Problem.{at}
 use Rattle.dual_problem.proofs.Laws.Items.{b-low-size, b-up-size}
 use Rattle.dual_problem.specs.Size.{gradientMost}
 use Rattle.certifying.specs.declared.multipliers.Judgement.the-variants.{Feasible}

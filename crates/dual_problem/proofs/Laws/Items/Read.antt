@@ -14,10 +14,11 @@ use Rattle.training_file.specs.declared.parameters.Parameters.{Parameters}
 use Rattle.training_file.specs.declared.item.Item.{Item}
 use Rattle.training_file.specs.declared.item.Label.{Label}
 use Rattle.training_file.specs.Parameters.{Ranges, ceilingMost, recordsMost}
+use Rattle.training_file.specs.Item.{itemIn}
 use Rattle.reading.specs.declared.reader.FileAnswer.the-variants.{Accepted}
 use Rattle.reading.specs.Reading.{Reading, refused, accepted, reading}
 use Rattle.reading.proofs.Laws.Reading.{accepted-is}
-use Rattle.reading.specs.Calls.{Read, itemIn, itemsIn, orderIn, fileAnswer, tableAfter}
+use Rattle.reading.specs.Calls.{Read, itemsIn, orderIn, fileAnswer, tableAfter}
 use Rattle.reading.proofs.Laws.Calls.{table-serves}
 use Rattle.reading.proofs.Laws.Reading.Accepted.{label-at, accepted-ranges, items-counted, items-most, item-features-most}
 use Rattle.dual_problem.specs.Kernel.{FeaturesInRange}

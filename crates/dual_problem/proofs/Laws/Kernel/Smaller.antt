@@ -15,8 +15,7 @@ use Rattle.integers.specs.Sum.{sum}
 use Rattle.integers.proofs.Laws.Sum.{sum-append, sum-cong, sum-flatten, sum-nonneg, sum-ones, sum-zero}
 use Rattle.integers.specs.Gram.{Gram}
 use Rattle.training_file.specs.declared.item.Item.{Item}
-use Rattle.training_file.specs.Item.{featureMost}
-use Rattle.reading.specs.Calls.{itemIn}
+use Rattle.training_file.specs.Item.{featureMost, itemIn}
 use Rattle.dual_problem.specs.Kernel.{FeaturesInRange, overlap, raisedBy, raisedFeature, raisedMost, smaller, smallerRaised}
 
 -- ---- the smaller of two numbers

@@ -13,7 +13,7 @@ use Rattle.training_file.specs.declared.item.Item.{Item}
 use Rattle.training_file.specs.declared.item.Label.{Label}
 use Rattle.training_file.specs.declared.item.Label.the-variants.{LookedUp, PassedOver}
 use Rattle.training_file.specs.Parameters.{Ranges, ceilingMost}
-use Rattle.reading.specs.Calls.{itemIn}
+use Rattle.training_file.specs.Item.{itemIn}
 use Rattle.dual_problem.specs.Problem.{Feasible, ceilingOf, problem}
 
 module _ (p : Parameters) where

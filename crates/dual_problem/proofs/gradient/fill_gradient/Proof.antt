@@ -10,8 +10,8 @@ use Rattle.integers.proofs.Laws.Bounds.{reads-back}
 use Rattle.integers.specs.Written.{written}
 use Rattle.integers.proofs.Laws.Written.{length-written}
 use Rattle.dual_problem.specs.Size.{gradientMost}
-use Rattle.dual_problem.specs.Problem.{gradient as gradientOf}
-use Rattle.dual_problem.specs.Items.{at, problemOf}
+use Rattle.dual_problem.specs.Problem.{gradient as gradientOf, at}
+use Rattle.dual_problem.specs.Items.{problemOf}
 use Rattle.dual_problem.proofs.gradient.fill_gradient.Statement.{statement}
 use Rattle.dual_problem.proofs.gradient.fill_gradient.Tie as tie
 

@@ -7,9 +7,11 @@ use native.Mathlib.Numerals.{add-one}
 use native.Mathlib.Omega.{arith}
 use lib.ListN.{getD, length-append}
 use Rattle.training_file.specs.declared.item.Label.{Label}
+use Rattle.training_file.specs.Item.{itemIn}
 use Rattle.reading.specs.Reading.{reading}
-use Rattle.reading.specs.Calls.{itemIn, itemsIn}
-use Rattle.dual_problem.specs.Items.{Listed, at as atPlace}
+use Rattle.reading.specs.Calls.{itemsIn}
+use Rattle.dual_problem.specs.Items.{Listed}
+use Rattle.dual_problem.specs.Problem.{at as atPlace}
 use Rattle.text.specs.Put.{Put, Room}
 use Rattle.text.proofs.Laws.Put.{put-as, put-length, put-none, put-then, room-as, room-then}
 use Rattle.totals.specs.declared.totals.Shown.{Shown}

@@ -11,15 +11,14 @@ use Rattle.training_file.specs.declared.refusal.Refusal.{Refusal}
 use Rattle.reading.specs.Reading.{accepted, reading, refused}
 use Rattle.reading.proofs.Laws.Reading.{accepted-is}
 use Rattle.reading.proofs.Laws.Reading.Accepted.{accepted-ranges, items-most}
-use Rattle.dual_problem.specs.Problem.{problem}
+use Rattle.dual_problem.specs.Problem.{problem, at}
 use Rattle.dual_problem.proofs.Laws.Problem.Ceilings.{feasible-most}
-use Rattle.dual_problem.specs.Items.{at}
 use Rattle.smo.specs.Run.{training}
 use Rattle.smo.specs.Answer.{trainedOf}
 use Rattle.training.proofs.Laws.Train.{accepted-sound}
 use Rattle.text.specs.Parts.{parts}
-use Rattle.lines.specs.Lines.{field, recordField, refusedText, shownAt}
 use Rattle.totals.proofs.Laws.Totals.{sums-equal}
+use Rattle.lines.specs.Lines.{field, recordField, refusedText, shownAt}
 use Rattle.lines.specs.Sheet.{AddsUp}
 use Rattle.lines.proofs.Laws.Sheet.{adds-up, refusal-one-line}
 use Rattle.listing.specs.Listing.{listing, listingOf}

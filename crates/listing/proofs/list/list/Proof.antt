@@ -4,7 +4,7 @@ use native.Mathlib.Omega.{arith}
 use borrow.Author.Needs.{needs}
 use Rattle.reading.specs.Reading.{reading}
 use Rattle.reading.specs.Calls.{itemsIn, orderIn}
-use Rattle.dual_problem.specs.Items.{at}
+use Rattle.dual_problem.specs.Problem.{at}
 use Rattle.text.proofs.Laws.Put.{put-all, put-as, room-as}
 use Rattle.listing.specs.Listing.{listing, listingIn, listingOf}
 use Rattle.listing.proofs.Laws.Listing.{items-few, listing-fits, listing-trained}

@@ -1,62 +1,35 @@
 -- What holds of every accepted file: the laws that the layers above rely on. Assumes nothing.
 use mathlib.Core.Path.{_≡_, refl, sym, ap, subst, _∙_}
-use mathlib.Core.Bool.{Bool, true}
+use mathlib.Core.Bool.{true}
 use mathlib.Core.List.{List, [], _∷_, map}
-use Prim.Native.Nat.{ℕ, zero, suc, _+_, _≤_, _<_, suc-le-suc}
+use Prim.Native.Nat.{ℕ, zero, suc, _≤_, _<_}
 use native.Mathlib.Nat.{le-of-suc-le-suc}
 use native.Mathlib.Omega.{arith}
-use lib.Dec.{leb}
 use lib.IntN.{pos, natAbs}
 use lib.ListN.{length, getD, length-map}
-use borrow.Author.Tests.{leb-true}
-use Rattle.integers.proofs.Laws.Test.{&&-both}
 use Rattle.training_file.specs.declared.parameters.Parameters.{Parameters}
 use Rattle.training_file.specs.declared.item.Label.{Label}
-use Rattle.training_file.specs.declared.item.Label.the-variants.{LookedUp, PassedOver}
 use Rattle.training_file.specs.declared.item.Item.{Item}
 use Rattle.training_file.specs.Layout.{firstRecord, nextOf, recordsStored}
 use Rattle.training_file.specs.Parameters.{Ranges, recordsMost}
 use Rattle.training_file.proofs.Laws.Parameters.{allowed-ranges}
-use Rattle.training_file.specs.Item.{featureMost, featuresAllowed, same}
+use Rattle.training_file.specs.Item.{featureMost, featuresAllowed, same, itemIn}
 use Rattle.training_file.specs.Record.{Stored, featuresAt, itemAt, recordAllowed}
-use Rattle.training_file.proofs.Laws.Item.{features-most, features-past}
-use Rattle.training_file.proofs.Laws.Record.{features-sixteen, record-features}
-use Rattle.chain.specs.Records.{every, labelled}
+use Rattle.training_file.proofs.Laws.Item.{features-most, features-past, labels-at}
+use Rattle.training_file.proofs.Laws.Record.{every-at, features-sixteen, record-features}
+use Rattle.training_file.specs.Header.{parametersOf}
+use Rattle.training_file.proofs.Laws.Header.{header-parameters}
 use Rattle.chain.proofs.Laws.Chain.{chain-ends, chain-length}
 use Rattle.chain.proofs.Laws.Stages.{order-stored}
-use Rattle.reading.specs.Header.{parametersOf}
 use Rattle.reading.specs.Reading.{reading}
-use Rattle.reading.specs.Calls.{Tabled, itemIn, itemsIn}
-use Rattle.reading.proofs.Laws.Header.{header-parameters}
+use Rattle.reading.specs.Calls.{Tabled, itemsIn}
 use Rattle.reading.proofs.Laws.Reading.{AcceptedFile}
 use Rattle.reading.proofs.Laws.Calls.{accepted-chained, accepted-order, counted-accepted}
-
--- ---- lists
-
-every-at : (test : ℕ → Bool) (rs : List ℕ) → every test rs ≡ true → (k : ℕ) → k < length rs → test (getD rs k 0) ≡ true
-unfolding every
-every-at test [] h k l = absurd (omega arith)
-every-at test (r ∷ rs) h zero l = &&-both (test r) (every test rs) h .0
-every-at test (r ∷ rs) h (suc k) l = every-at test rs (&&-both (test r) (every test rs) h .1) k (le-of-suc-le-suc l)
 
 getD-map-in : (f : ℕ → Item) (rs : List ℕ) (k : ℕ) (d : Item) → k < length rs → getD (map f rs) k d ≡ f (getD rs k 0)
 getD-map-in f [] k d l = absurd (omega arith)
 getD-map-in f (r ∷ rs) zero d l = refl
 getD-map-in f (r ∷ rs) (suc k) d l = getD-map-in f rs k d (le-of-suc-le-suc l)
-
--- a label that some item has stands at some place
-labelled-at : (label : Label) (items : List Item) → 1 ≤ labelled label items → (k : ℕ) × (k < length items) × (itemIn items k .label ≡ label)
-unfolding labelled
-labelled-at label [] h = absurd (omega arith)
-labelled-at label (item ∷ items) h = here label (item .label) refl (labelled-at label items) h
-  where
-    here : (a b : Label) → item .label ≡ b
-        → (1 ≤ labelled a items → (k : ℕ) × (k < length items) × (itemIn items k .label ≡ a))
-        → 1 ≤ same a b + labelled a items → (k : ℕ) × (k < suc (length items)) × (itemIn (item ∷ items) k .label ≡ a)
-    here LookedUp LookedUp e rest l = (0, omega arith, e)
-    here PassedOver PassedOver e rest l = (0, omega arith, e)
-    here LookedUp PassedOver e rest l = let r = rest (omega arith) in (suc (r .0), suc-le-suc (r .1), r .2)
-    here PassedOver LookedUp e rest l = let r = rest (omega arith) in (suc (r .0), suc-le-suc (r .1), r .2)
 
 -- ---- an accepted file
 
@@ -82,15 +55,8 @@ module _ (file : List ℕ) (p : Parameters) (rs : List ℕ) (items : List Item) 
   item-is k h = ap (λ (is : List Item). itemIn is k) (a .items-are) ∙ getD-map-in (itemAt file) rs k _ h
 
   -- each label has an item
-  labels-both : (leb 1 (labelled LookedUp items) ≡ true) × (leb 1 (labelled PassedOver items) ≡ true)
-  labels-both = &&-both (leb 1 (labelled LookedUp items)) (leb 1 (labelled PassedOver items)) (a .labels-are)
-
-  some-labelled : (label : Label) → 1 ≤ labelled label items
-  some-labelled LookedUp = leb-true 1 (labelled LookedUp items) (labels-both .0)
-  some-labelled PassedOver = leb-true 1 (labelled PassedOver items) (labels-both .1)
-
   pub label-at : (label : Label) → (k : ℕ) × (k < length items) × (itemIn items k .label ≡ label)
-  label-at label = labelled-at label items (some-labelled label)
+  label-at label = labels-at items (a .labels-are) label
 
   -- there are at most as many items as records
   pub items-most : length items ≤ recordsMost
@@ -105,7 +71,7 @@ module _ (file : List ℕ) (p : Parameters) (rs : List ℕ) (items : List Item) 
   -- the features of each item
   module _ (k : ℕ) (h : k < length rs) where
     record-allowed : featuresAllowed (p .used) (featuresAt file (getD rs k 0)) ≡ true
-    record-allowed = record-features (p .used) file (getD rs k 0) (every-at (recordAllowed (p .used) file) rs (a .records-are) k h)
+    record-allowed = record-features (p .used) file (getD rs k 0) (every-at (recordAllowed (p .used) file) 0 rs (a .records-are) k h)
 
     pub item-features-most : (i : ℕ) → natAbs (getD (itemIn items k .features) i (pos 0)) ≤ featureMost
     item-features-most i =

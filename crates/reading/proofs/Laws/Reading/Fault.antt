@@ -9,14 +9,14 @@ use native.Mathlib.Omega.{arith}
 use Rattle.training_file.specs.declared.refusal.Refusal.{Refusal}
 use Rattle.training_file.specs.Refusal.{Within, alone, at-fault, refusalAt}
 use Rattle.training_file.specs.Layout.{firstRecord, nextOf, recordsStored}
-use Rattle.training_file.specs.Record.{itemAt, recordAllowed}
+use Rattle.training_file.specs.Record.{itemAt, recordAllowed, every}
+use Rattle.training_file.specs.Header.{headerAllowed, lengthAllowed, parametersOf}
+use Rattle.training_file.specs.Item.{bothLabels}
+use Rattle.training_file.proofs.Laws.Header.{allowed-whole, header-first}
 use Rattle.chain.specs.Walk.{Walk, broken, ends}
 use Rattle.chain.specs.Chain.{ChainIn, FaultIn, chainOf}
-use Rattle.chain.specs.Records.{every}
 use Rattle.chain.proofs.Laws.Chain.{chain-broken, chain-ends, chain-none}
-use Rattle.reading.specs.Header.{headerAllowed, lengthAllowed, parametersOf}
-use Rattle.reading.specs.Reading.{Reading, accepted, bothLabels, readChain, reading, refused, unless}
-use Rattle.reading.proofs.Laws.Header.{allowed-whole, header-first}
+use Rattle.reading.specs.Reading.{Reading, accepted, readChain, reading, refused, unless}
 use Rattle.reading.proofs.Laws.Reading.{reads-broken, reads-chain}
 
 -- ---- what a refusal says of the file

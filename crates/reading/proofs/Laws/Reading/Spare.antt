@@ -10,14 +10,13 @@ use lib.Seq.{ext-getD, getD-drop, getD-take}
 use Rattle.training_file.specs.declared.parameters.Parameters.{Parameters}
 use Rattle.training_file.specs.declared.item.Item.{Item}
 use Rattle.training_file.specs.Layout.{featureBytes, featureCount, firstRecord, le2, le4, le8, nextOf, recordStart, recordsStored, signedByte}
-use Rattle.training_file.specs.Item.{itemOf}
-use Rattle.training_file.specs.Record.{itemAt, recordAllowed}
+use Rattle.training_file.specs.Item.{itemOf, bothLabels}
+use Rattle.training_file.specs.Record.{itemAt, recordAllowed, every}
+use Rattle.training_file.specs.Header.{headerAllowed, lengthAllowed, parametersOf}
 use Rattle.chain.specs.Walk.{Walk, broken, ends}
 use Rattle.chain.specs.Chain.{chain, chainOf}
-use Rattle.chain.specs.Records.{every}
 use Rattle.chain.proofs.Laws.Chain.{chain-ends, chain-spare}
-use Rattle.reading.specs.Header.{headerAllowed, lengthAllowed, parametersOf}
-use Rattle.reading.specs.Reading.{Reading, accepted, bothLabels, readChain, reading, unless}
+use Rattle.reading.specs.Reading.{Reading, accepted, readChain, reading, unless}
 use Rattle.reading.specs.Spare.{Alike, OnChain, SameChained}
 
 -- ---- the fields

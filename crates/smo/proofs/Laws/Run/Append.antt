@@ -12,9 +12,8 @@ use lib.Seq.{set-append-left, lt-length-set}
 use lib.Signed.{ltZ, leZ}
 use Rattle.integers.specs.Extremum.{argmin}
 use Rattle.integers.proofs.Laws.Extremum.{ltZ-strict, gtZ-strict, extreme-cong}
-use Rattle.dual_problem.specs.Problem.{Problem, gradient, up, low, bUp, bLow, objective}
+use Rattle.dual_problem.specs.Problem.{Problem, gradient, up, low, bUp, bLow, objective, at}
 use Rattle.dual_problem.proofs.Laws.Problem.Same.{gradient-cong, objective-cong, up-cong, low-cong, b-up-cong, b-low-cong}
-use Rattle.dual_problem.specs.Items.{at}
 use Rattle.working_pair.specs.Step.{curvature, moves, lowered, raised, moved, fall, rise, room, amount, candidate, firstCandidate, workingPair, iLow, iUp}
 use Rattle.working_pair.proofs.Laws.Step.{moved-length}
 use Rattle.working_pair.proofs.Laws.Step.WorkingPair.{first-candidate-sound, first-candidate-none, first-candidate-complete, first-candidate-absent, working-pair-sound}

@@ -11,8 +11,8 @@ use lib.ListN.{length, getD}
 use Rattle.integers.specs.Written.{written}
 use Rattle.integers.proofs.Laws.Written.{length-written, written-same, written-over}
 use Rattle.training_file.specs.declared.parameters.Parameters.{Parameters}
-use Rattle.dual_problem.specs.Problem.{Problem, gradient as gradientOf}
-use Rattle.dual_problem.specs.Items.{at, problemOf}
+use Rattle.dual_problem.specs.Problem.{Problem, gradient as gradientOf, at}
+use Rattle.dual_problem.specs.Items.{problemOf}
 use Rattle.thresholds.specs.Extremes.{bestValue}
 use Rattle.thresholds.proofs.Laws.Extremes.{low-value, up-value}
 use Rattle.working_pair.specs.Step.{Candidate}

@@ -2,7 +2,7 @@
 use mathlib.Core.Path.{_∙_, ap}
 use borrow.Author.Needs.{needs}
 use lib.ListN.{set}
-use Rattle.dual_problem.specs.Items.{at}
+use Rattle.dual_problem.specs.Problem.{at}
 use Rattle.working_pair.specs.Step.{raised}
 use Rattle.smo_step.proofs.step.move_pair.Statement.{statement}
 use Rattle.smo_step.proofs.step.move_pair.Tie as tie

@@ -12,10 +12,11 @@ use mir.Val.{toZ, ofZ}
 use Rattle.integers.proofs.Laws.Bounds.{fits-width, reads-back}
 use Rattle.integers.specs.Written.{written}
 use Rattle.training_file.specs.declared.item.Item.{Item}
+use Rattle.training_file.specs.Item.{itemIn}
 use Rattle.reading.specs.Reading.{reading}
-use Rattle.reading.specs.Calls.{itemIn, itemsIn}
-use Rattle.dual_problem.specs.Problem.{Problem, ceilingOf}
-use Rattle.dual_problem.specs.Items.{at, problemOf}
+use Rattle.reading.specs.Calls.{itemsIn}
+use Rattle.dual_problem.specs.Problem.{Problem, ceilingOf, at}
+use Rattle.dual_problem.specs.Items.{problemOf}
 use Rattle.working_pair.specs.Step.{slope, lowered, raised, fall, rise, amount}
 use Rattle.working_pair.specs.Curvature.{curvatureBetween}
 use Rattle.working_pair.specs.Division.{divided, PairGiven}

@@ -14,8 +14,9 @@ use Rattle.integers.proofs.Laws.Bounds.{reads-back}
 use Rattle.integers.specs.Written.{written}
 use Rattle.integers.proofs.Laws.Written.{length-written, written-past}
 use Rattle.training_file.specs.declared.item.Item.{Item}
+use Rattle.training_file.specs.Item.{itemIn}
 use Rattle.reading.specs.Reading.{reading}
-use Rattle.reading.specs.Calls.{itemsIn, itemIn}
+use Rattle.reading.specs.Calls.{itemsIn}
 use Rattle.dual_problem.specs.Size.{gradientMost, termMost}
 use Rattle.dual_problem.specs.Kernel.{kernelBetween}
 use Rattle.dual_problem.proofs.Laws.Kernel.{kernel-reads, kernel-sized}

@@ -12,8 +12,8 @@ use Rattle.integers.proofs.Laws.Test.{&&-true, &&-false-left, &&-false-right}
 use Rattle.training_file.specs.declared.parameters.Parameters.{Parameters}
 use Rattle.reading.specs.Reading.{reading}
 use Rattle.reading.specs.Calls.{Read, itemsIn, fileRefusal}
-use Rattle.dual_problem.specs.Problem.{gradient as gradientOf}
-use Rattle.dual_problem.specs.Items.{Listed, at, problemOf}
+use Rattle.dual_problem.specs.Problem.{gradient as gradientOf, at}
+use Rattle.dual_problem.specs.Items.{Listed, problemOf}
 use Rattle.dual_problem.proofs.Laws.Items.Read.{answer-read, read-listed, read-ranges}
 use Rattle.smo.specs.Run.{training}
 use Rattle.training.specs.declared.train.Training.the-variants.{Ended}

@@ -8,8 +8,8 @@ use lib.IntN.{pos}
 use lib.ListN.{length}
 use Rattle.integers.specs.Written.{written}
 use Rattle.integers.proofs.Laws.Written.{length-written, written-at, written-over}
-use Rattle.dual_problem.specs.Problem.{Problem, gradient as gradientOf}
-use Rattle.dual_problem.specs.Items.{MultipliersListed, at, problemOf}
+use Rattle.dual_problem.specs.Problem.{Problem, gradient as gradientOf, at}
+use Rattle.dual_problem.specs.Items.{MultipliersListed, problemOf}
 use Rattle.working_pair.specs.State.{State}
 use Rattle.smo.specs.Run.{run as runOf, training}
 use Rattle.smo.specs.Answer.{trainedOf}

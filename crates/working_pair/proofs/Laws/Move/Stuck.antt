@@ -20,8 +20,7 @@ use Rattle.integers.proofs.Laws.Sum.Places.{sum-changed₂}
 use Rattle.integers.specs.Gram.{Gram}
 use Rattle.training_file.specs.declared.item.Label.{Label}
 use Rattle.training_file.specs.declared.item.Label.the-variants.{LookedUp, PassedOver}
-use Rattle.dual_problem.specs.Problem.{Problem, Feasible, sign, y, inUp, inLow, objective}
-use Rattle.dual_problem.specs.Items.{at}
+use Rattle.dual_problem.specs.Problem.{Problem, Feasible, sign, y, inUp, inLow, objective, at}
 use Rattle.working_pair.specs.Step.{Candidate, amount, curvature, moved, moves, slope, workingPair}
 use Rattle.working_pair.proofs.Laws.Step.{moved-move, moved-feasible, curvature-nonneg, moves-apart, candidate-made, candidate-moves}
 use Rattle.working_pair.specs.Move.{Move, TwoMove, NoMoveLowers}

@@ -18,8 +18,7 @@ use Rattle.integers.proofs.Laws.Linear.{integer, +ℤ-parts, -ℤ-parts, *ℤ-p
 use Rattle.integers.proofs.Laws.Order.{ltZ-true, ltZ-false, <ℤ-ltZ, ≤ℤ-ltZ, <ℤ-to-≤ℤ, positivity, certificate}
 use Rattle.integers.proofs.Laws.Extremum.{Extreme, ltZ-strict, extreme-found, extreme-sound, extreme-complete}
 use Rattle.integers.specs.Gram.{Gram}
-use Rattle.dual_problem.specs.Problem.{Problem, objective}
-use Rattle.dual_problem.specs.Items.{at}
+use Rattle.dual_problem.specs.Problem.{Problem, objective, at}
 use Rattle.working_pair.specs.Step.{slope, curvature, moved, room, amount, candidate}
 use Rattle.working_pair.proofs.Laws.Step.{room-positive, moved-objective, curvature-nonneg, moves-slope, moves-apart, candidate-low, candidate-up, candidate-moves}
 

@@ -10,8 +10,7 @@ use Rattle.integers.proofs.Laws.Test.{clash, not-true-false}
 use Rattle.integers.specs.Extremum.{first, valueAt}
 use Rattle.integers.proofs.Laws.Extremum.{Extreme, ltZ-strict, gtZ-strict, extreme-sound, extreme-none}
 use Rattle.integers.proofs.Laws.Extremum.First.{First, first-sound, first-none, first-complete, first-absent}
-use Rattle.dual_problem.specs.Problem.{Problem, gradient, up, low, bUp, bLow}
-use Rattle.dual_problem.specs.Items.{at}
+use Rattle.dual_problem.specs.Problem.{Problem, gradient, up, low, bUp, bLow, at}
 use Rattle.working_pair.specs.Step.{Candidate, candidate, firstCandidate, iLow, iUp, moves, somePlace, workingPair}
 use Rattle.working_pair.proofs.Laws.Step.{candidate-made, candidate-low, candidate-up}
 

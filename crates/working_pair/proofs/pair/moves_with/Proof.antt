@@ -19,9 +19,9 @@ use Rattle.reading.specs.Calls.{itemsIn}
 use Rattle.dual_problem.specs.Size.{gradientMost, kernelMost}
 use Rattle.dual_problem.specs.Kernel.{kernelBetween}
 use Rattle.dual_problem.proofs.Laws.Kernel.{kernel-reads, kernel-sized}
-use Rattle.dual_problem.specs.Problem.{Problem, gradient}
+use Rattle.dual_problem.specs.Problem.{Problem, gradient, at}
 use Rattle.dual_problem.proofs.Laws.Problem.{problem-gram}
-use Rattle.dual_problem.specs.Items.{at, problemOf}
+use Rattle.dual_problem.specs.Items.{problemOf}
 use Rattle.dual_problem.proofs.Laws.Items.{gradient-size, kernel-size}
 use Rattle.working_pair.specs.Step.{slope, moves}
 use Rattle.working_pair.proofs.Laws.Step.{moves-needs-slope}

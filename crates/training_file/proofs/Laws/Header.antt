@@ -7,15 +7,10 @@ use native.Mathlib.Omega.{arith}
 use lib.Dec.{leb, eqb}
 use lib.ListN.{length}
 use borrow.Author.Tests.{le-leb, lt-leb, eq-eqb, ne-eqb, leb-true, eqb-true}
-use Rattle.integers.proofs.Laws.Test.{&&-both, &&-left, chose-first, chose-second}
-use Rattle.training_file.specs.declared.refusal.Refusal.{Refusal}
-use Rattle.training_file.specs.declared.parameters.Parameters.{Parameters}
-use Rattle.training_file.specs.declared.parameters.ParametersAnswer.the-variants.{Allowed}
-use Rattle.training_file.specs.declared.parameters.ParametersAnswer.the-variants as parameters-answer
+use Rattle.integers.proofs.Laws.Test.{&&-both, &&-left}
 use Rattle.training_file.specs.Layout.{firstRecord, kernelByte, recordsStored, spare}
 use Rattle.training_file.specs.Parameters.{kernelAllowed, parametersAllowed, recordsMost}
-use Rattle.chain.specs.Stages.{WholeFile}
-use Rattle.reading.specs.Header.{headerAllowed, headerAnswer, lengthAllowed, parametersOf}
+use Rattle.training_file.specs.Header.{WholeFile, headerAllowed, lengthAllowed, parametersOf}
 
 module _ (file : List ℕ) where
   -- ---- refusal 1
@@ -79,14 +74,3 @@ module _ (file : List ℕ) where
       let to-kernel = &&-left (few && eqb (spare file) 0 && kernelAllowed (kernelByte file)) (parametersAllowed (parametersOf file)) h in
       let to-spare = &&-left (few && eqb (spare file) 0) (kernelAllowed (kernelByte file)) to-kernel in
       leb-true (firstRecord file) (recordsStored file) (&&-left few (eqb (spare file) 0) to-spare)
-
--- ---- what an answer says
-
-module _ (file : List ℕ) where
-  pub header-allowed : (p : Parameters) → headerAnswer file ≡ Allowed p → (headerAllowed file ≡ true) × (parametersOf file ≡ p)
-  header-allowed p e =
-      let chose = chose-first (headerAllowed file) (λ q. let z : _≡_ {A = ℕ} 0 1 = cc in omega arith) e in
-      (chose .0, let same = chose .1 in cc)
-
-  pub header-refused : (why : Refusal) → headerAnswer file ≡ parameters-answer.Refused why → headerAllowed file ≡ false
-  header-refused why e = chose-second (headerAllowed file) (λ q. let z : _≡_ {A = ℕ} 0 1 = cc in omega arith) e .0

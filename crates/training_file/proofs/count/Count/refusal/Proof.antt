@@ -1,9 +1,9 @@
--- `chain::count::Count::refusal` meets its contract. Assumes nothing.
+-- `training_file::count::Count::refusal` meets its contract. Assumes nothing.
 use mathlib.Core.Path.{sym, ap}
 use borrow.Author.Needs.{needs}
-use Rattle.chain.specs.Stages.{countRefusal}
-use Rattle.chain.proofs.count.Count.refusal.Statement.{statement}
-use Rattle.chain.proofs.count.Count.refusal.Tie as tie
+use Rattle.training_file.specs.Answers.{countRefusal}
+use Rattle.training_file.proofs.count.Count.refusal.Statement.{statement}
+use Rattle.training_file.proofs.count.Count.refusal.Tie as tie
 
 enum-known-self : tie.Need-enum-known-self
 enum-known-self c = search needs

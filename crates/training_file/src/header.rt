@@ -1,20 +1,21 @@
-// The header: the length that it promises, and the parameters that it holds.
+// The header: the length that it promises, and the parameters that it holds. What `read_parameters` requires is met by `reading`, which asks
+// `count_records` first.
 
 ghost use mathlib.Core.Path.{_≡_};
 ghost use Prim.Native.Nat.{_≤_};
 ghost use lib.ListN.{length};
-ghost use Rattle.reading.specs.Header.{headerAnswer, storedAnswer};
-use chain::count::Count;
-use training_file::bytes::u16_at;
-use training_file::bytes::u32_at;
-use training_file::bytes::u64_at;
-use training_file::item::Item;
-use training_file::layout;
-use training_file::parameters::Kernel;
-use training_file::parameters::KernelAnswer;
-use training_file::parameters::Parameters;
-use training_file::parameters::ParametersAnswer;
-use training_file::refusal::Refusal;
+ghost use Rattle.training_file.specs.Answers.{storedAnswer, headerAnswer};
+use super::bytes::u16_at;
+use super::bytes::u32_at;
+use super::bytes::u64_at;
+use super::count::Count;
+use super::item::Item;
+use super::layout;
+use super::parameters::Kernel;
+use super::parameters::KernelAnswer;
+use super::parameters::Parameters;
+use super::parameters::ParametersAnswer;
+use super::refusal::Refusal;
 
 // How many records are stored. Refused where the file does not have the length of its header and so many records.
 pub fn count_records(file: &[u8]) -> Count
@@ -48,13 +49,17 @@ pub fn read_parameters(file: &[u8]) -> ParametersAnswer
     let KernelAnswer::Known(kernel) = answer else {
         return ParametersAnswer::Refused(answer.refusal());
     };
-    Parameters::new(
-        file[layout::FEATURES_IN_USE] as usize,
+    let parameters = Parameters {
+        used: file[layout::FEATURES_IN_USE] as usize,
         kernel,
-        u32_at(file, layout::GRID),
-        u32_at(file, layout::CEILING),
-        u32_at(file, layout::SECOND_CEILING),
-        u64_at(file, layout::TOLERANCE),
-        u32_at(file, layout::BUDGET),
-    )
+        grid: u32_at(file, layout::GRID),
+        ceiling: u32_at(file, layout::CEILING),
+        second: u32_at(file, layout::SECOND_CEILING),
+        tolerance: u64_at(file, layout::TOLERANCE),
+        budget: u32_at(file, layout::BUDGET),
+    };
+    if !parameters.allowed() {
+        return ParametersAnswer::Refused(Refusal::HEADER);
+    }
+    ParametersAnswer::Allowed(parameters)
 }

@@ -1,8 +1,8 @@
 // What a stage of reading answers.
 
 ghost use mathlib.Core.Path.{_≡_};
-ghost use Rattle.chain.specs.Stages.{countRefusal};
-use training_file::refusal::Refusal;
+ghost use Rattle.training_file.specs.Answers.{countRefusal};
+use super::refusal::Refusal;
 
 // What a stage counts, or the refusal that it meets.
 pub enum Count {
