@@ -145,7 +145,7 @@ extern "C" {
  * numbers of the records on the chain, in the chain's order, and later places
  * what they held. Records are numbered from 1.
  *
- * Refusals: 1 to 5 and 16. All four lent things are then as they were. */
+ * Refusals: 1, 2, 3, 16, 4, 5. All four lent things are then as they were. */
 lookahead_answer lookahead_read(const uint8_t *file, size_t file_len,
                                 uint16_t *order, size_t order_len,
                                 size_t *items, size_t *used, uint8_t *kernel);
@@ -164,7 +164,7 @@ lookahead_answer lookahead_read(const uint8_t *file, size_t file_len,
  *
  * lookahead_read answers n, and which record each of those places belongs to.
  *
- * Refusals: 1 to 6 and 16. All six lent things are then as they were. */
+ * Refusals: 1, 2, 3, 16, 4, 5, 6. All six lent things are then as they were. */
 lookahead_answer lookahead_train(const uint8_t *file, size_t file_len,
                                  uint32_t *multipliers, size_t multipliers_len,
                                  int64_t *gradient, size_t gradient_len,
@@ -197,7 +197,7 @@ lookahead_answer lookahead_train(const uint8_t *file, size_t file_len,
  *
  * After number 0: *lower is b_low and *upper is b_up.
  *
- * Refusals: 1 to 8 and 16. *lower and *upper are then as they were. */
+ * Refusals: 1, 2, 3, 16, 4, 5, 6, 7, 8. *lower and *upper are then as they were. */
 lookahead_answer lookahead_certify(const uint8_t *file, size_t file_len,
                                    const uint32_t *multipliers,
                                    size_t multipliers_len,
@@ -211,7 +211,7 @@ lookahead_answer lookahead_certify(const uint8_t *file, size_t file_len,
  * After number 0: *class_answer is LOOKAHEAD_LOOKED_UP, LOOKAHEAD_PASSED_OVER
  * or LOOKAHEAD_UNDECIDED.
  *
- * Refusals: 1 to 9 and 16. *class_answer is then as it was. */
+ * Refusals: 1, 2, 3, 16, 4, 5, 6, 7, 8, 9. *class_answer is then as it was. */
 lookahead_answer lookahead_classify(const uint8_t *file, size_t file_len,
                                     const uint32_t *multipliers,
                                     size_t multipliers_len,

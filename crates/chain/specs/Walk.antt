@@ -2,16 +2,12 @@
 -- numbered from 1, m are stored, and `next r` is the next number that record r holds. Assumes nothing.
 use mathlib.Core.Path.{_≡_}
 use mathlib.Core.Logic.{_≢_}
-use mathlib.Core.Bool.{Bool, false, _||_, _&&_, not, cond}
+use mathlib.Core.Bool.{Bool, _&&_, not, cond}
 use mathlib.Core.List.{List, [], _∷_, _++_}
 use Prim.Native.Nat.{ℕ, zero, suc, _≤_, _<_}
 use lib.Dec.{ltb, leb, eqb}
 use lib.ListN.{length, getD}
-
--- whether r is among the records rs
-abbrev pub member : ℕ → List ℕ → Bool
-member r [] = false
-member r (x ∷ rs) = eqb r x || member r rs
+use Rattle.integers.specs.Member.{member}
 
 -- the last of the records met; 0, which is no record's number, where there is none
 abbrev pub lastOf : List ℕ → ℕ

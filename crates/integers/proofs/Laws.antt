@@ -10,6 +10,7 @@ pub mod Sum
 pub mod Bounds
 pub mod Sign
 pub mod Places
+pub mod Member
 pub mod Written
 pub mod Extremum
 pub mod Gram

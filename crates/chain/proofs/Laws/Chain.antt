@@ -8,9 +8,11 @@ use Prim.Native.Nat.{ℕ, suc, _-_, _≤_, _<_}
 use native.Mathlib.Nat.{eq-or-lt-of-le}
 use native.Mathlib.Omega.{arith}
 use lib.ListN.{length, getD, List·getD-eq-default}
-use Rattle.chain.specs.Walk.{Walk, Walked, broken, comesTo, ends, lastOf, ledTo, member, recordsMet}
+use Rattle.integers.specs.Member.{member}
+use Rattle.integers.proofs.Laws.Member.{is-member, member-true}
+use Rattle.chain.specs.Walk.{Walk, Walked, broken, comesTo, ends, lastOf, ledTo, recordsMet}
 use Rattle.chain.specs.Chain.{IsChain, IsFault, chain}
-use Rattle.chain.proofs.Laws.Walk.{Stops, is-member, last-at, led-at, member-true, met-all, stopped-broken, stopped-ends, stops-again, stops-ended, stops-over, walk-stops, walked-most}
+use Rattle.chain.proofs.Laws.Walk.{Stops, last-at, led-at, met-all, stopped-broken, stopped-ends, stops-again, stops-ended, stops-over, walk-stops, walked-most}
 
 module _ (next : ℕ → ℕ) (m first : ℕ) where
   -- ---- the chain is what the walk comes to, where it stops

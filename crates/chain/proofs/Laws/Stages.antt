@@ -12,6 +12,8 @@ use lib.ListN.{length, getD, replicate, set, take, drop, drop-of-length-le, getD
 use borrow.Author.Tests.{le-leb, ne-eqb, leb-true, leb-false, eqb-true, eqb-false}
 use lib.Seq.{append-snoc, drop-cons, drop-length, getD-set-other, getD-set-same, length-take-le, set-at, take-all, take-length, take-suc}
 use Rattle.integers.proofs.Laws.Test.{chose-first, chose-second}
+use Rattle.integers.specs.Member.{member}
+use Rattle.integers.proofs.Laws.Member.{member-last, member-other}
 use Rattle.training_file.specs.declared.refusal.Refusal.{Refusal}
 use Rattle.training_file.specs.declared.item.Label.the-variants.{LookedUp}
 use Rattle.training_file.specs.Refusal.{refusal, refusalAt}
@@ -23,10 +25,10 @@ use Rattle.training_file.specs.declared.count.Count.the-variants.{Refused, Coun
 use Rattle.training_file.specs.Header.{WholeFile}
 use Rattle.training_file.specs.Answers.{countIf}
 use Rattle.chain.specs.declared.step.Step.the-variants.{Ended, Over, Next}
-use Rattle.chain.specs.Walk.{Walk, Walked, broken, ends, lastOf, ledTo, member}
+use Rattle.chain.specs.Walk.{Walk, Walked, broken, ends, lastOf, ledTo}
 use Rattle.chain.specs.Chain.{ChainIn, chainOf}
 use Rattle.chain.specs.Stages.{Chained, judgeAnswer, orderOf, recordsOf, stepAt, stepNext, tableWith, walkAnswer}
-use Rattle.chain.proofs.Laws.Walk.{Stops, last-at, last-snoc, led-snoc, member-last, member-other, stops-again, stops-ended, stops-over, walked-more, walked-most, walked-none}
+use Rattle.chain.proofs.Laws.Walk.{Stops, last-at, last-snoc, led-snoc, stops-again, stops-ended, stops-over, walked-more, walked-most, walked-none}
 use Rattle.chain.proofs.Laws.Chain.{chain-ends, stops-chain}
 
 -- ---- what an answer says

@@ -1,8 +1,10 @@
 -- Demand 3 of the call for certifying, from the library's. Assumes nothing.
+use mathlib.Core.Path.{refl}
 use mathlib.Core.List.{List}
 use Prim.Native.Nat.{ℕ, zero, suc, _≤_}
 use native.Mathlib.Omega.{arith}
-use Rattle.training_file.proofs.Laws.Refusal.{within-some}
+use Rattle.training_file.specs.Refusal.{certifyingRefuses}
+use Rattle.training_file.proofs.Laws.Refusal.{number-some}
 use Rattle.reading.specs.Reading.{Reading, refused, accepted, reading}
 use Rattle.certifying.specs.declared.certify.Certified.{Certified}
 use Rattle.certifying.specs.declared.certify.Certified.the-variants.{Refused, Found}
@@ -19,7 +21,7 @@ seen-distance file a before = seen (reading file) (certifying file a) (certified
     seen : (r : Reading) (answer : Certified) → CertifiedDistance r a answer → CertifyRefusals answer → SeenDistance r a (certifySeen answer before)
     seen (refused why) answer d t = tt
     seen (accepted p order items) (Found found) d t = d
-    seen (accepted p order items) (Refused why) d t = by (why .number) (within-some 8 why t)
+    seen (accepted p order items) (Refused why) d t = by (why .number) (number-some certifyingRefuses why refl t)
       where
         by : (n : ℕ) → 1 ≤ n → AnsweredDistance p items a n before
         by zero h = absurd (omega arith)

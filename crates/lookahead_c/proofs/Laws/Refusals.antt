@@ -1,25 +1,25 @@
--- Each call ends with the refusals named for it, and no others; 3 and 16 alone carry a record, and it is one of 1 to 256. Assumes nothing.
+-- Each call ends with the refusals listed for it, and no others; 3 and 16 alone carry a record, and it is one of 1 to 256. Assumes nothing.
 use mathlib.Core.Path.{_≡_, refl}
-use mathlib.Core.Logic.{⊎-elim}
-use mathlib.Core.Bool.{_&&_}
+use mathlib.Core.Bool.{true, _&&_}
 use mathlib.Core.List.{List}
 use Prim.Native.Nat.{ℕ, _≤_}
 use native.Mathlib.Omega.{arith}
 use lib.Dec.{eqb, leb}
 use lib.IntN.{ℤ}
 use lib.ListN.{length}
+use Rattle.integers.specs.Member.{member}
 use Rattle.integers.specs.Zero.{isZero}
 use Rattle.integers.proofs.Laws.Test.{chose-either}
 use Rattle.training_file.specs.declared.parameters.Parameters.{Parameters}
 use Rattle.training_file.specs.declared.item.Item.{Item}
-use Rattle.training_file.specs.declared.refusal.Refusal.{Refusal}
-use Rattle.training_file.specs.Refusal.{Within, alone, at-fault, noRefusal, refusal}
-use Rattle.training_file.proofs.Laws.Refusal.{within-more}
+use Rattle.training_file.specs.Record.{every}
+use Rattle.training_file.specs.Refusal.{OneOf, RecordCarried, certifyingRefuses, classifyingRefuses, noRefusal, readingRefuses, refusal, trainingRefuses}
+use Rattle.training_file.proofs.Laws.Refusal.{none-carried, one-of-alone, one-of-more}
 use Rattle.reading.specs.declared.reader.FileAnswer.{FileAnswer}
 use Rattle.reading.specs.declared.reader.FileAnswer.the-variants as read
 use Rattle.reading.specs.Reading.{Reading, refused, accepted, reading}
 use Rattle.reading.specs.Calls.{fileAnswer, fileRefusal}
-use Rattle.reading.proofs.Laws.Reading.Fault.{refused-within}
+use Rattle.reading.proofs.Laws.Reading.Fault.{refused-one-of}
 use Rattle.dual_problem.specs.Problem.{Problem, problem, at}
 use Rattle.certifying.specs.declared.certify.Certified.{Certified}
 use Rattle.certifying.specs.declared.certify.Certified.the-variants as certified
@@ -38,98 +38,98 @@ use Rattle.lookahead_c.specs.Reading.{ReadNumbers, readSeen}
 use Rattle.lookahead_c.specs.Training.{TrainNumbers, trainSeen}
 use Rattle.lookahead_c.specs.Certifying.{certifySeen}
 use Rattle.lookahead_c.specs.Classifying.{classifySeen}
-use Rattle.lookahead_c.specs.Refusals.{CertifyRefusals, ClassifyRefusals, ReadRefusals, RecordAnswered, TrainRefusals}
+use Rattle.lookahead_c.specs.Refusals.{CertifyRefusals, ClassifyRefusals, ReadRefusals, TrainRefusals}
 
--- ---- reading: 1 to 5 and 16
+-- ---- reading
 pub read-refusals : (file : List ℕ) → ReadRefusals (fileAnswer (reading file))
 read-refusals file = by (reading file) refl where
   by : (x : Reading) → reading file ≡ x → ReadRefusals (fileAnswer x)
-  by (refused why) e = refused-within file why e
+  by (refused why) e = refused-one-of file why e
   by (accepted p order items) e = tt
 
 -- ---- the refusals that a caller can cause carry no record
-caused : (most number : ℕ) → 6 ≤ number → number ≤ most → Within most (refusal number)
-caused most number l u = alone (omega arith) u (λ q. omega arith) refl
+caused : (numbers : List ℕ) (number : ℕ) → 6 ≤ number → number ≤ 9 → member number numbers ≡ true → OneOf numbers (refusal number)
+caused numbers number l u e = one-of-alone numbers number e (λ q. omega arith) (λ q. omega arith)
 
--- ---- training: 1 to 6 and 16
+-- ---- training
 pub train-refusals : (file a : List ℕ) (g : List ℤ) → TrainRefusals (trainFile file a g .answer)
+unfolding every
 train-refusals file a g = by (reading file) refl where
   by : (x : Reading) → reading file ≡ x → TrainRefusals (trainRead x a g .answer)
-  by (refused why) e = within-more 5 6 why (omega arith) (refused-within file why e)
+  by (refused why) e = one-of-more readingRefuses trainingRefuses why refl (refused-one-of file why e)
   by (accepted p order items) e =
       chose-either (λ (left : TrainingLeft). TrainRefusals (left .answer)) (leb (length items) (length a) && leb (length items) (length g)) tt
-      (caused 6 6 (omega arith) (omega arith))
+      (caused trainingRefuses 6 (omega arith) (omega arith) refl)
 
 -- ---- judged multipliers: 6 to 8
 abbrev JudgedRefusals : Judgement → Type 0
-JudgedRefusals (judged.Refused why) = Within 8 why
+JudgedRefusals (judged.Refused why) = OneOf certifyingRefuses why
 JudgedRefusals judged.Feasible = Unit {0}
 
 judged-refusals : (P : Problem) (a : List ℕ) → JudgedRefusals (judgement P a)
 judged-refusals P a =
     chose-either JudgedRefusals (eqb (length a) (P .count))
     (chose-either JudgedRefusals (withinCeilings (P .count) P (at a))
-    (chose-either JudgedRefusals (isZero (balance P (at a))) tt (caused 8 8 (omega arith) (omega arith)))
-    (caused 8 7 (omega arith) (omega arith)))
-    (caused 8 6 (omega arith) (omega arith))
+    (chose-either JudgedRefusals (isZero (balance P (at a))) tt (caused certifyingRefuses 8 (omega arith) (omega arith) refl))
+    (caused certifyingRefuses 7 (omega arith) (omega arith) refl))
+    (caused certifyingRefuses 6 (omega arith) (omega arith) refl)
 
--- ---- certifying: 1 to 8 and 16
+-- ---- certifying
 certify-judged : (P : Problem) (a : List ℕ) (j : Judgement) → JudgedRefusals j → CertifyRefusals (certifyJudged P a j)
 certify-judged P a (judged.Refused why) n = n
 certify-judged P a judged.Feasible n = tt
 
 pub certify-refusals : (file a : List ℕ) → CertifyRefusals (certifying file a)
+unfolding every
 certify-refusals file a = by (reading file) refl where
   by : (x : Reading) → reading file ≡ x → CertifyRefusals (certifyRead x a)
-  by (refused why) e = within-more 5 8 why (omega arith) (refused-within file why e)
+  by (refused why) e = one-of-more readingRefuses certifyingRefuses why refl (refused-one-of file why e)
   by (accepted p order items) e = certify-judged (problem p items) a (judgement (problem p items) a) (judged-refusals (problem p items) a)
 
--- ---- classifying: 1 to 9 and 16
+-- ---- classifying
 module _ (p : Parameters) (items : List Item) (a : List ℕ) (word : List ℤ) where
   classify-judged : (j : Judgement) → JudgedRefusals j → ClassifyRefusals (classifyJudged p items a word j)
-  classify-judged (judged.Refused why) n = within-more 8 9 why (omega arith) n
-  classify-judged judged.Feasible n = chose-either ClassifyRefusals (wordAllowed word) tt (caused 9 9 (omega arith) (omega arith))
+  unfolding every
+  classify-judged (judged.Refused why) n = one-of-more certifyingRefuses classifyingRefuses why refl n
+  classify-judged judged.Feasible n = chose-either ClassifyRefusals (wordAllowed word) tt (caused classifyingRefuses 9 (omega arith) (omega arith) refl)
 
   classify-items : ClassifyRefusals (classifyItems p items a word)
   classify-items =
       chose-either ClassifyRefusals (eqb (length word) (p .used))
       (classify-judged (judgement (problem p items) a) (judged-refusals (problem p items) a))
-      (caused 9 6 (omega arith) (omega arith))
+      (caused classifyingRefuses 6 (omega arith) (omega arith) refl)
 
 pub classify-refusals : (file a : List ℕ) (word : List ℤ) → ClassifyRefusals (classifying file a word)
+unfolding every
 classify-refusals file a word = by (reading file) refl where
   by : (x : Reading) → reading file ≡ x → ClassifyRefusals (classifyRead x a word)
-  by (refused why) e = within-more 5 9 why (omega arith) (refused-within file why e)
+  by (refused why) e = one-of-more readingRefuses classifyingRefuses why refl (refused-one-of file why e)
   by (accepted p order items) e = classify-items p items a word
 
 -- ---- the record that a caller sees
-within-record : (most : ℕ) (why : Refusal) → most ≤ 9 → Within most why → RecordAnswered why
-within-record most why few (alone l u d e) = record { at-fault = ⊎-elim (λ q. absurd (d q)) (λ q. absurd (omega arith)); otherwise = λ not-3 not-16. e }
-within-record most why few (at-fault n l u) = record { at-fault = λ q. (l, u); otherwise = λ not-3 not-16. absurd (⊎-elim not-3 not-16 n) }
+none-refused : RecordCarried noRefusal
+none-refused = none-carried 0 (λ q. omega arith) (λ q. omega arith)
 
-none-record : RecordAnswered noRefusal
-none-record = record { at-fault = ⊎-elim (λ q. absurd (omega arith)) (λ q. absurd (omega arith)); otherwise = λ not-3 not-16. refl }
-
-pub read-record : (file table : List ℕ) (before : ReadNumbers) → RecordAnswered (readSeen (reading file) table before .refusal)
+pub read-record : (file table : List ℕ) (before : ReadNumbers) → RecordCarried (readSeen (reading file) table before .refusal)
 read-record file table before = by (fileAnswer (reading file)) (read-refusals file) where
-  by : (x : FileAnswer) → ReadRefusals x → RecordAnswered (fileRefusal x)
-  by (read.Refused why) n = within-record 5 why (omega arith) n
-  by (read.Accepted p count) n = none-record
+  by : (x : FileAnswer) → ReadRefusals x → RecordCarried (fileRefusal x)
+  by (read.Refused why) n = n .carried
+  by (read.Accepted p count) n = none-refused
 
-pub train-record : (file a : List ℕ) (g : List ℤ) (before : TrainNumbers) → RecordAnswered (trainSeen (trainFile file a g) before .refusal)
+pub train-record : (file a : List ℕ) (g : List ℤ) (before : TrainNumbers) → RecordCarried (trainSeen (trainFile file a g) before .refusal)
 train-record file a g before = by (trainFile file a g .answer) (train-refusals file a g) where
-  by : (x : Training) → TrainRefusals x → RecordAnswered (trainingRefusal x)
-  by (training.Refused why) n = within-record 6 why (omega arith) n
-  by (training.Ended result) n = none-record
+  by : (x : Training) → TrainRefusals x → RecordCarried (trainingRefusal x)
+  by (training.Refused why) n = n .carried
+  by (training.Ended result) n = none-refused
 
-pub certify-record : (file a : List ℕ) (before : Thresholds) → RecordAnswered (certifySeen (certifying file a) before .refusal)
+pub certify-record : (file a : List ℕ) (before : Thresholds) → RecordCarried (certifySeen (certifying file a) before .refusal)
 certify-record file a before = by (certifying file a) (certify-refusals file a) where
-  by : (x : Certified) → CertifyRefusals x → RecordAnswered (certifiedRefusal x)
-  by (certified.Refused why) n = within-record 8 why (omega arith) n
-  by (certified.Found thresholds) n = none-record
+  by : (x : Certified) → CertifyRefusals x → RecordCarried (certifiedRefusal x)
+  by (certified.Refused why) n = n .carried
+  by (certified.Found thresholds) n = none-refused
 
-pub classify-record : (file a : List ℕ) (word : List ℤ) (before : ℕ) → RecordAnswered (classifySeen (classifying file a word) before .refusal)
+pub classify-record : (file a : List ℕ) (word : List ℤ) (before : ℕ) → RecordCarried (classifySeen (classifying file a word) before .refusal)
 classify-record file a word before = by (classifying file a word) (classify-refusals file a word) where
-  by : (x : Classified) → ClassifyRefusals x → RecordAnswered (classifiedRefusal x)
-  by (classified.Refused why) n = within-record 9 why (omega arith) n
-  by (classified.Is class) n = none-record
+  by : (x : Classified) → ClassifyRefusals x → RecordCarried (classifiedRefusal x)
+  by (classified.Refused why) n = n .carried
+  by (classified.Is class) n = none-refused

@@ -4,7 +4,8 @@ use mathlib.Core.List.{List}
 use Prim.Native.Nat.{ℕ, zero, suc, _≤_}
 use native.Mathlib.Omega.{arith}
 use lib.IntN.{ℤ}
-use Rattle.training_file.proofs.Laws.Refusal.{within-some}
+use Rattle.training_file.specs.Refusal.{trainingRefuses}
+use Rattle.training_file.proofs.Laws.Refusal.{number-some}
 use Rattle.reading.specs.Reading.{Reading, refused, accepted, reading}
 use Rattle.training.specs.declared.train.Training.{Training}
 use Rattle.training.specs.declared.train.Training.the-variants.{Refused, Ended}
@@ -22,7 +23,7 @@ seen-quality file a g before =
         → SeenQuality r (record { refusal = trainingRefusal answer; multipliers = left; gradient = trainFile file a g .gradient; found = trainFound answer before })
     seen (refused why) answer left q t = tt
     seen (accepted p order items) (Ended result) left q t = (result .ending, refl, q)
-    seen (accepted p order items) (Refused why) left q t = by (why .number) (within-some 6 why t)
+    seen (accepted p order items) (Refused why) left q t = by (why .number) (number-some trainingRefuses why refl t)
       where
         by : (n : ℕ) → 1 ≤ n → AnsweredQuality p items n before left
         by zero h = absurd (omega arith)

@@ -1,16 +1,38 @@
 -- Laws of refusals. Assumes nothing.
-use mathlib.Core.Path.{_≡_}
-use mathlib.Core.Logic.{⊎-elim}
-use Prim.Native.Nat.{ℕ, _≤_}
+use mathlib.Core.Path.{_≡_, refl, ap, sym, _∙_}
+use mathlib.Core.Logic.{_≢_, ⊎-elim}
+use mathlib.Core.Bool.{true, false}
+use mathlib.Core.List.{List}
+use Prim.Native.Nat.{ℕ, zero, suc, _≤_}
 use native.Mathlib.Omega.{arith}
+use Rattle.integers.specs.Member.{member}
+use Rattle.integers.proofs.Laws.Member.{member-true}
+use Rattle.integers.proofs.Laws.Test.{clash}
 use Rattle.training_file.specs.declared.refusal.Refusal.{Refusal}
-use Rattle.training_file.specs.Refusal.{Within, alone, at-fault}
+use Rattle.training_file.specs.Refusal.{OneOf, RecordCarried, refusal}
+use Rattle.training_file.specs.Record.{every}
+use Rattle.training_file.proofs.Laws.Record.{every-at}
 
--- no refusal has the number 0
-pub within-some : (most : ℕ) (why : Refusal) → Within most why → 1 ≤ why .number
-within-some most why (alone l u d e) = l
-within-some most why (at-fault n l u) = ⊎-elim (λ (q : why .number ≡ 3). omega arith) (λ (q : why .number ≡ 16). omega arith) n
+-- no refusal has the number 0, where 0 is none of the numbers
+pub number-some : (numbers : List ℕ) (why : Refusal) → member 0 numbers ≡ false → OneOf numbers why → 1 ≤ why .number
+number-some numbers why none-0 one = by (why .number) (one .listed)
+  where
+    by : (number : ℕ) → member number numbers ≡ true → 1 ≤ number
+    by zero e = clash e none-0
+    by (suc n) e = omega arith
 
-pub within-more : (few most : ℕ) (why : Refusal) → few ≤ most → Within few why → Within most why
-within-more few most why h (alone l u d e) = alone l (omega arith) d e
-within-more few most why h (at-fault n l u) = at-fault n l u
+-- a refusal with one of few numbers, all of which are among more
+pub one-of-more : (few more : List ℕ) (why : Refusal) → every (λ number. member number more) few ≡ true → OneOf few why → OneOf more why
+one-of-more few more why all one =
+    let at = member-true (why .number) few (one .listed) in
+    record {
+      listed = ap (λ number. member number more) (sym (at .2)) ∙ every-at (λ number. member number more) 0 few all (at .0) (at .1);
+      carried = one .carried;
+    }
+
+-- numbers other than 3 and 16 carry no record
+pub none-carried : (number : ℕ) → number ≢ 3 → number ≢ 16 → RecordCarried (refusal number)
+none-carried number not-3 not-16 = record { at-fault = ⊎-elim (λ e. absurd (not-3 e)) (λ e. absurd (not-16 e)); otherwise = λ a b. refl }
+
+pub one-of-alone : (numbers : List ℕ) (number : ℕ) → member number numbers ≡ true → number ≢ 3 → number ≢ 16 → OneOf numbers (refusal number)
+one-of-alone numbers number e not-3 not-16 = record { listed = e; carried = none-carried number not-3 not-16 }
