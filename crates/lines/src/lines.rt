@@ -3,8 +3,8 @@
 ghost use mathlib.Core.List.{[], _∷_};
 ghost use Prim.Native.Nat.{_≤_};
 ghost use lib.ListN.{length};
+ghost use Rattle.buffer.specs.Put.{Put, Room};
 ghost use Rattle.dual_problem.specs.Items.{Listed};
-ghost use Rattle.text.specs.Put.{Put, Room};
 ghost use Rattle.lines.specs.Lines.{
   endingText,
   field,
@@ -18,13 +18,13 @@ ghost use Rattle.lines.specs.Lines.{
   signedField,
   totalLine,
 };
+use buffer::put::put_byte;
+use buffer::put::put_bytes;
 use reading::reader::fetch_label;
 use smo::ending::Ending;
 use smo::run::Trained;
 use text::number::put_number;
 use text::number::put_signed;
-use text::text::put_byte;
-use text::text::put_text;
 use totals::totals::Shown;
 use totals::totals::Totals;
 use training_file::item::Label;
@@ -64,10 +64,10 @@ pub fn put_refusal(out: &mut [u8], at: usize, refusal: Refusal) -> usize
     requires { ⌜ Room (refusalLine refusal) at (now out) ⌝ }
     ensures { λ r. ⌜ Put (refusalLine refusal) at (now (out .entry)) (now (out .exit)) r ⌝ }
 {
-    let after_word = put_text(out, at, b"refused");
+    let after_word = put_bytes(out, at, b"refused");
     let after_number = put_field(out, after_word, refusal.number as u64);
     let after_record = put_record(out, after_number, refusal.at);
-    put_text(out, after_record, b"\n")
+    put_bytes(out, after_record, b"\n")
 }
 
 // Why training ended, in lower case letters.
@@ -76,9 +76,9 @@ fn put_ending(out: &mut [u8], at: usize, ending: Ending) -> usize
     ensures { λ r. ⌜ Put (endingText ending) at (now (out .entry)) (now (out .exit)) r ⌝ }
 {
     match ending {
-        Ending::Converged => put_text(out, at, b"converged"),
-        Ending::Stuck => put_text(out, at, b"stuck"),
-        Ending::Spent => put_text(out, at, b"spent"),
+        Ending::Converged => put_bytes(out, at, b"converged"),
+        Ending::Stuck => put_bytes(out, at, b"stuck"),
+        Ending::Spent => put_bytes(out, at, b"spent"),
     }
 }
 
@@ -92,7 +92,7 @@ pub fn put_result(out: &mut [u8], at: usize, trained: Trained) -> usize
     let after_steps = put_field(out, after_ending, trained.steps as u64);
     let after_lower = put_signed_field(out, after_steps, trained.lower);
     let after_upper = put_signed_field(out, after_lower, trained.upper);
-    put_text(out, after_upper, b"\n")
+    put_bytes(out, after_upper, b"\n")
 }
 
 // The label's sign between two spaces.
@@ -101,8 +101,8 @@ fn put_label(out: &mut [u8], at: usize, label: Label) -> usize
     ensures { λ r. ⌜ Put (32 ∷ labelSign label ∷ 32 ∷ []) at (now (out .entry)) (now (out .exit)) r ⌝ }
 {
     match label {
-        Label::LookedUp => put_text(out, at, b" + "),
-        Label::PassedOver => put_text(out, at, b" - "),
+        Label::LookedUp => put_bytes(out, at, b" + "),
+        Label::PassedOver => put_bytes(out, at, b" - "),
     }
 }
 
@@ -115,7 +115,7 @@ fn put_item(out: &mut [u8], at: usize, shown: Shown) -> usize
     let after_number = put_number(out, at, shown.number as u64);
     let after_label = put_label(out, after_number, label);
     let after_multiplier = put_number(out, after_label, shown.multiplier as u64);
-    put_text(out, after_multiplier, b"\n")
+    put_bytes(out, after_multiplier, b"\n")
 }
 
 // The last line: how many multipliers are above 0, and their sums over label +1 and over label -1.
@@ -123,11 +123,11 @@ fn put_total(out: &mut [u8], at: usize, totals: Totals) -> usize
     requires { ⌜ Room (totalLine totals) at (now out) ⌝ }
     ensures { λ r. ⌜ Put (totalLine totals) at (now (out .entry)) (now (out .exit)) r ⌝ }
 {
-    let after_word = put_text(out, at, b"total");
+    let after_word = put_bytes(out, at, b"total");
     let after_count = put_field(out, after_word, totals.count);
     let after_plus = put_field(out, after_count, totals.plus);
     let after_minus = put_field(out, after_plus, totals.minus);
-    put_text(out, after_minus, b"\n")
+    put_bytes(out, after_minus, b"\n")
 }
 
 // A line for each item, in chain order, and the totals of these lines: each line's numbers are added as the line is put.

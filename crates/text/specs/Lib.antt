@@ -1,4 +1,3 @@
--- What it is to put bytes into a lent buffer, numbers in decimal as lists of bytes, and how a text is taken apart. Assumes nothing.
-pub mod Put
+-- Numbers in decimal as lists of bytes, and how a text is taken apart. Assumes nothing.
 pub mod Decimal
 pub mod Parts

@@ -1,4 +1,3 @@
-// Bytes and decimal numbers put into a lent buffer. It may use `integers` alone.
+// Decimal numbers put into a lent buffer. It may use `integers` and `buffer`.
 
 pub mod number;
-pub mod text;

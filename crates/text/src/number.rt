@@ -1,9 +1,9 @@
 // Numbers in decimal, without leading zeros.
 // The caller sees to it that the buffer has room.
 
+ghost use Rattle.buffer.specs.Put.{Put, Room};
 ghost use Rattle.text.specs.Decimal.{decimal, signedDecimal};
-ghost use Rattle.text.specs.Put.{Put, Room};
-use super::text::put_byte;
+use buffer::put::put_byte;
 
 // The digits before the last are those of a tenth of the number, so the most significant one is put first without counting them.
 pub fn put_number(out: &mut [u8], at: usize, number: u64) -> usize

@@ -7,8 +7,8 @@ use borrow.Author.Needs.{needs}
 use lib.IntN.{ℤ}
 use lib.ListN.{length}
 use lib.Seq.{length-take-le}
-use Rattle.text.specs.Put.{Put, Room}
-use Rattle.text.proofs.Laws.Put.{put-length}
+use Rattle.buffer.specs.Put.{Put, Room}
+use Rattle.buffer.proofs.Laws.Put.{put-length}
 use Rattle.text.specs.Decimal.{signedDecimal}
 use Rattle.text.proofs.Laws.Decimal.{signed-length}
 use Rattle.settled_test.proofs.show_number.Statement.{statement}

@@ -1,6 +1,6 @@
 -- `lines::lines::put_field` meets its contract. Assumes nothing.
 use borrow.Author.Needs.{needs}
-use Rattle.text.proofs.Laws.Put.{put-then, room-first, room-then}
+use Rattle.buffer.proofs.Laws.Put.{put-then, room-first, room-then}
 use Rattle.lines.proofs.lines.put_field.Statement.{statement}
 use Rattle.lines.proofs.lines.put_field.Tie as tie
 

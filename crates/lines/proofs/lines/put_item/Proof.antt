@@ -1,6 +1,6 @@
 -- `lines::lines::put_item` meets its contract. Assumes nothing.
 use borrow.Author.Needs.{needs}
-use Rattle.text.proofs.Laws.Put.{put-then, room-first, room-then}
+use Rattle.buffer.proofs.Laws.Put.{put-then, room-first, room-then}
 use Rattle.lines.specs.Lines.{itemLine}
 use Rattle.lines.proofs.lines.put_item.Statement.{statement}
 use Rattle.lines.proofs.lines.put_item.Tie as tie
@@ -23,19 +23,19 @@ put-number-requires-2 : tie.Need-put-number-requires-2
 unfolding itemLine
 put-number-requires-2 c κs = room-first _ _ (room-then (c .before .before .before .before .put-label .ensures) (room-then (c .before .before .before .before .before .before .before .before .put-number .ensures) (c .before .before .before .before .before .before .before .before .before .before .before .before .pre)))
 
-slice-aggregate-put-text : tie.Need-slice-aggregate-put-text
-slice-aggregate-put-text c = search needs
+slice-aggregate-put-bytes : tie.Need-slice-aggregate-put-bytes
+slice-aggregate-put-bytes c = search needs
 
-put-text-requires : tie.Need-put-text-requires
+put-bytes-requires : tie.Need-put-bytes-requires
 unfolding itemLine
-put-text-requires c κs = room-then (c .before .before .before .before .put-number2 .ensures) (room-then (c .before .before .before .before .before .before .before .before .before .put-label .ensures) (room-then (c .before .before .before .before .before .before .before .before .before .before .before .before .before .put-number .ensures) (c .before .before .before .before .before .before .before .before .before .before .before .before .before .before .before .before .before .pre)))
+put-bytes-requires c κs = room-then (c .before .before .before .before .put-number2 .ensures) (room-then (c .before .before .before .before .before .before .before .before .before .put-label .ensures) (room-then (c .before .before .before .before .before .before .before .before .before .before .before .before .before .put-number .ensures) (c .before .before .before .before .before .before .before .before .before .before .before .before .before .before .before .before .before .pre)))
 
 same-length : tie.Need-same-length
 same-length c = search needs
 
 returns : tie.Need-returns
 unfolding itemLine
-returns c = put-then (c .before .before .before .before .before .before .before .before .before .before .before .before .before .before .before .before .put-number .ensures) (put-then (c .before .before .before .before .before .before .before .before .before .before .before .before .put-label .ensures) (put-then (c .before .before .before .before .before .before .before .put-number2 .ensures) (c .before .before .put-text .ensures)))
+returns c = put-then (c .before .before .before .before .before .before .before .before .before .before .before .before .before .before .before .before .put-number .ensures) (put-then (c .before .before .before .before .before .before .before .before .before .before .before .before .put-label .ensures) (put-then (c .before .before .before .before .before .before .before .put-number2 .ensures) (c .before .before .put-bytes .ensures)))
 
 pub put-item-spec : {M : Type 1} → statement M
-put-item-spec = tie.close (tie.spec cast-put-number put-number-requires put-label-requires cast-put-number-2 put-number-requires-2 slice-aggregate-put-text put-text-requires same-length returns)
+put-item-spec = tie.close (tie.spec cast-put-number put-number-requires put-label-requires cast-put-number-2 put-number-requires-2 slice-aggregate-put-bytes put-bytes-requires same-length returns)

@@ -6,14 +6,14 @@ use Prim.Native.Nat.{ℕ, suc, _+_, _-_, _^_, _≤_, _<_}
 use native.Mathlib.Numerals.{add-one}
 use native.Mathlib.Omega.{arith}
 use lib.ListN.{getD, length-append}
+use Rattle.buffer.specs.Put.{Put, Room}
+use Rattle.buffer.proofs.Laws.Put.{put-as, put-length, put-none, put-then, room-as, room-then}
 use Rattle.training_file.specs.declared.item.Label.{Label}
 use Rattle.training_file.specs.Item.{itemIn}
 use Rattle.reading.specs.Reading.{reading}
 use Rattle.reading.specs.Calls.{itemsIn}
 use Rattle.dual_problem.specs.Items.{Listed}
 use Rattle.dual_problem.specs.Problem.{at as atPlace}
-use Rattle.text.specs.Put.{Put, Room}
-use Rattle.text.proofs.Laws.Put.{put-as, put-length, put-none, put-then, room-as, room-then}
 use Rattle.totals.specs.declared.totals.Shown.{Shown}
 use Rattle.totals.specs.Totals.{both, countAboveZero, sumOver, totals as totalsBelow, totalsOfLine}
 use Rattle.totals.proofs.Laws.Totals.{next-fits, totals-next}

@@ -1,7 +1,7 @@
 -- `lines::lines::put_record` meets its contract. Assumes nothing.
 use mathlib.Core.Path.{sym, ap}
 use borrow.Author.Needs.{needs}
-use Rattle.text.proofs.Laws.Put.{put-as, put-none, room-as}
+use Rattle.buffer.proofs.Laws.Put.{put-as, put-none, room-as}
 use Rattle.lines.specs.Lines.{recordField}
 use Rattle.lines.proofs.Laws.Lines.{record-shown}
 use Rattle.lines.proofs.lines.put_record.Statement.{statement}

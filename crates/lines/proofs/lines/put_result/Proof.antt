@@ -5,7 +5,7 @@ use borrow.Author.Needs.{needs}
 use mir.Syntax.{w64}
 use mir.Val.{toZ, ofZ}
 use Rattle.integers.proofs.Laws.Bounds.{reads-element}
-use Rattle.text.proofs.Laws.Put.{put-as, put-then, room-as, room-first, room-then}
+use Rattle.buffer.proofs.Laws.Put.{put-as, put-then, room-as, room-first, room-then}
 use Rattle.lines.specs.Lines.{resultLine, signedField}
 use Rattle.lines.proofs.lines.put_result.Statement.{statement}
 use Rattle.lines.proofs.lines.put_result.Tie as tie
@@ -38,12 +38,12 @@ put-signed-field-requires-2 c κs =
     let lower = put-as (lower-read (c .before .before .before .before .before)) (c .before .before .before .before .put-signed-field .ensures) in
     room-as (sym (upper-read c)) (room-first _ _ (room-then lower (room-then (c .before .before .before .before .before .before .before .before .before .put-field .ensures) (room-then (c .before .before .before .before .before .before .before .before .before .before .before .before .before .before .put-ending .ensures) (c .before .before .before .before .before .before .before .before .before .before .before .before .before .before .before .before .before .pre)))))
 
-slice-aggregate-put-text : tie.Need-slice-aggregate-put-text
-slice-aggregate-put-text c = search needs
+slice-aggregate-put-bytes : tie.Need-slice-aggregate-put-bytes
+slice-aggregate-put-bytes c = search needs
 
-put-text-requires : tie.Need-put-text-requires
+put-bytes-requires : tie.Need-put-bytes-requires
 unfolding resultLine
-put-text-requires c κs =
+put-bytes-requires c κs =
     let lower = put-as (lower-read (c .before .before .before .before .before .before .before .before .before .before)) (c .before .before .before .before .before .before .before .before .before .put-signed-field .ensures) in
     let upper = put-as (upper-read (c .before .before .before .before .before)) (c .before .before .before .before .put-signed-field2 .ensures) in
     room-then upper (room-then lower (room-then (c .before .before .before .before .before .before .before .before .before .before .before .before .before .before .put-field .ensures) (room-then (c .before .before .before .before .before .before .before .before .before .before .before .before .before .before .before .before .before .before .before .put-ending .ensures) (c .before .before .before .before .before .before .before .before .before .before .before .before .before .before .before .before .before .before .before .before .before .before .pre))))
@@ -56,7 +56,7 @@ unfolding resultLine
 returns c =
     let lower = put-as (lower-read (c .before .before .before .before .before .before .before .before .before .before .before .before .before)) (c .before .before .before .before .before .before .before .before .before .before .before .before .put-signed-field .ensures) in
     let upper = put-as (upper-read (c .before .before .before .before .before .before .before .before)) (c .before .before .before .before .before .before .before .put-signed-field2 .ensures) in
-    put-then (c .before .before .before .before .before .before .before .before .before .before .before .before .before .before .before .before .before .before .before .before .before .before .put-ending .ensures) (put-then (c .before .before .before .before .before .before .before .before .before .before .before .before .before .before .before .before .before .put-field .ensures) (put-then lower (put-then upper (c .before .before .put-text .ensures))))
+    put-then (c .before .before .before .before .before .before .before .before .before .before .before .before .before .before .before .before .before .before .before .before .before .before .put-ending .ensures) (put-then (c .before .before .before .before .before .before .before .before .before .before .before .before .before .before .before .before .before .put-field .ensures) (put-then lower (put-then upper (c .before .before .put-bytes .ensures))))
 
 pub put-result-spec : {M : Type 1} → statement M
 put-result-spec =
@@ -67,7 +67,7 @@ put-result-spec =
     put-field-requires
     put-signed-field-requires
     put-signed-field-requires-2
-    slice-aggregate-put-text
-    put-text-requires
+    slice-aggregate-put-bytes
+    put-bytes-requires
     same-length
     returns)

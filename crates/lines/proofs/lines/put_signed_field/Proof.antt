@@ -3,8 +3,8 @@ use mathlib.Core.Path.{sym, ap}
 use mir.Facts.{toZ-ofZ}
 use mir.Syntax.{w64}
 use borrow.Author.Needs.{needs}
+use Rattle.buffer.proofs.Laws.Put.{put-as, put-then, room-as, room-then}
 use Rattle.text.specs.Decimal.{signedDecimal}
-use Rattle.text.proofs.Laws.Put.{put-as, put-then, room-as, room-then}
 use Rattle.lines.proofs.lines.put_signed_field.Statement.{statement}
 use Rattle.lines.proofs.lines.put_signed_field.Tie as tie
 

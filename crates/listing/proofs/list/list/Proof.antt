@@ -2,10 +2,10 @@
 use mathlib.Core.Path.{_≡_, sym, _∙_}
 use native.Mathlib.Omega.{arith}
 use borrow.Author.Needs.{needs}
+use Rattle.buffer.proofs.Laws.Put.{put-all, put-as, room-as}
 use Rattle.reading.specs.Reading.{reading}
 use Rattle.reading.specs.Calls.{itemsIn, orderIn}
 use Rattle.dual_problem.specs.Problem.{at}
-use Rattle.text.proofs.Laws.Put.{put-all, put-as, room-as}
 use Rattle.listing.specs.Listing.{listing, listingIn, listingOf}
 use Rattle.listing.proofs.Laws.Listing.{items-few, listing-fits, listing-trained}
 use Rattle.listing.proofs.list.list.Statement.{statement}

@@ -4,10 +4,10 @@ use mathlib.Core.Path.{_≡_, refl, sym, _∙_, ap, subst₂}
 use native.Mathlib.Omega.{arith}
 use lib.ListN.{length}
 use borrow.Author.Needs.{needs}
+use Rattle.buffer.proofs.Laws.Put.{put-as, put-then, room-as, room-first, room-then}
 use Rattle.reading.specs.Reading.{reading}
 use Rattle.reading.specs.Calls.{itemsIn}
 use Rattle.dual_problem.specs.Items.{Listed}
-use Rattle.text.proofs.Laws.Put.{put-as, put-then, room-as, room-first, room-then}
 use Rattle.lines.specs.Lines.{itemsWithTotal, shownIn}
 use Rattle.listing.specs.Listing.{itemCount, listing}
 use Rattle.listing.proofs.Laws.Listing.{count-items, reading-listed}

@@ -1,8 +1,8 @@
 -- `listing::list::put_training` meets its contract: each return puts the text of the answer's case. Assumes nothing.
 use mathlib.Core.Path.{_≡_, sym, _∙_, ap}
 use borrow.Author.Needs.{needs}
+use Rattle.buffer.proofs.Laws.Put.{put-as, room-as}
 use Rattle.training.specs.Train.{trainingRefusal}
-use Rattle.text.proofs.Laws.Put.{put-as, room-as}
 use Rattle.lines.specs.Lines.{refusalLine}
 use Rattle.listing.specs.Listing.{listing, listingIn}
 use Rattle.listing.proofs.list.put_training.Statement.{statement}

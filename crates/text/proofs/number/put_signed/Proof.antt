@@ -11,9 +11,9 @@ use lib.Signed.{leZ}
 use mir.Syntax.{w64}
 use mir.Val.{Fits, SFits, toZ, ofZ}
 use Rattle.integers.proofs.Laws.Sign.{below, less-one-casts, less-one-fits, less-one-reads, not-below, not-below-casts, not-below-reads}
+use Rattle.buffer.proofs.Laws.Put.{put-as, put-then, room-as, room-first, room-then}
 use Rattle.text.specs.Decimal.{decimal, signedDecimal}
 use Rattle.text.proofs.Laws.Decimal.{signed-minus, signed-plus}
-use Rattle.text.proofs.Laws.Put.{put-as, put-then, room-as, room-first, room-then}
 use Rattle.text.proofs.number.put_signed.Statement.{statement}
 use Rattle.text.proofs.number.put_signed.Tie as tie
 

@@ -2,7 +2,7 @@
 // The caller sees to it that the buffer has room.
 
 ghost use mathlib.Core.List.{[], _∷_};
-ghost use Rattle.text.specs.Put.{Put, Room};
+ghost use Rattle.buffer.specs.Put.{Put, Room};
 
 // One byte.
 pub fn put_byte(out: &mut [u8], at: usize, byte: u8) -> usize
@@ -13,14 +13,14 @@ pub fn put_byte(out: &mut [u8], at: usize, byte: u8) -> usize
     at + 1
 }
 
-// The bytes of a text, in their order.
-pub fn put_text(out: &mut [u8], at: usize, text: &[u8]) -> usize
-    requires { ⌜ Room (now text) at (now out) ⌝ }
-    ensures { λ r. ⌜ Put (now (text .entry)) at (now (out .entry)) (now (out .exit)) r ⌝ }
+// Bytes, in their order.
+pub fn put_bytes(out: &mut [u8], at: usize, bytes: &[u8]) -> usize
+    requires { ⌜ Room (now bytes) at (now out) ⌝ }
+    ensures { λ r. ⌜ Put (now (bytes .entry)) at (now (out .entry)) (now (out .exit)) r ⌝ }
 {
     let mut i = 0;
-    while i < text.len() {
-        out[at + i] = text[i];
+    while i < bytes.len() {
+        out[at + i] = bytes[i];
         i += 1;
     }
     at + i

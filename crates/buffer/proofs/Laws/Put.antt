@@ -1,25 +1,26 @@
--- Laws of `Put`: texts put one after the other. Assumes nothing.
+-- Laws of `Put`: bytes put after bytes. Assumes nothing.
 use mathlib.Core.Path.{_≡_, refl, sym, _∙_, ap, subst}
 use mathlib.Core.List.{List, [], _∷_, _++_}
 use Prim.Native.Nat.{ℕ, suc, _+_, _≤_, _<_}
 use native.Mathlib.Omega.{arith}
 use lib.ListN.{length, drop, getD, set, take, length-append}
 use lib.Seq.{sets, length-sets, length-take-le, sets-eq, take-suc}
-use Rattle.text.specs.Put.{Put, Room}
+use Rattle.buffer.specs.Put.{Put, Room}
 
 sets-append : (xs ys l : List ℕ) (i : ℕ) → sets l i (xs ++ ys) ≡ sets (sets l i xs) (i + length xs) ys
 sets-append [] ys l i = let e : i ≡ i + 0 = omega arith in ap (λ j. sets l j ys) e
 sets-append (x ∷ xs) ys l i = let e : suc i + length xs ≡ i + suc (length xs) = omega arith in sets-append xs ys (set l i x) (suc i) ∙ ap (λ j. sets (sets (set l i x) (suc i) xs) j ys) e
 
--- one more byte of a text
-pub sets-take : (text l : List ℕ) (i k : ℕ) → k < length text → set (sets l i (take k text)) (i + k) (getD text k 0) ≡ sets l i (take (suc k) text)
-sets-take text l i k h =
-    ap (λ n. set (sets l i (take k text)) (i + n) (getD text k 0)) (sym (length-take-le k text (omega arith))) ∙ sym (sets-append (take k text) (getD text k 0 ∷ []) l i) ∙ ap (sets l i) (sym (take-suc text k 0 h))
+-- one more of the bytes
+pub sets-take : (bytes l : List ℕ) (i k : ℕ) → k < length bytes → set (sets l i (take k bytes)) (i + k) (getD bytes k 0) ≡ sets l i (take (suc k) bytes)
+sets-take bytes l i k h =
+    ap (λ n. set (sets l i (take k bytes)) (i + n) (getD bytes k 0)) (sym (length-take-le k bytes (omega arith))) ∙ sym (sets-append (take k bytes) (getD bytes k 0 ∷ []) l i) ∙ ap (sets l i) (sym (take-suc bytes k 0 h))
 
 module _ {xs : List ℕ} {i : ℕ} {l m : List ℕ} {j : ℕ} (p : Put xs i l m j) where
   pub put-length : length m ≡ length l
   put-length = ap length (p .left) ∙ length-sets l i xs
 
+  -- bytes put after them: both together are put, and they have room where both have
   pub put-then : {ys k : List ℕ} {n : ℕ} → Put ys j m k n → Put (xs ++ ys) i l k n
   put-then {ys} q =
       record {
@@ -36,14 +37,14 @@ room-first xs ys h = record { fits = omega (arith, length-append xs ys) }
 pub put-none : (i : ℕ) (l : List ℕ) → Put [] i l l i
 put-none i l = record { ends = omega arith; left = refl }
 
--- the same text, said in another way
+-- the same bytes, said in another way
 pub put-as : {xs ys : List ℕ} {i : ℕ} {l m : List ℕ} {j : ℕ} → xs ≡ ys → Put xs i l m j → Put ys i l m j
 put-as {i = i} {l} {m} {j} e p = subst (λ t. Put t i l m j) e p
 
 pub room-as : {xs ys : List ℕ} {i : ℕ} {l : List ℕ} → xs ≡ ys → Room xs i l → Room ys i l
 room-as {i = i} {l} e h = subst (λ t. Room t i l) e h
 
--- a text that starts the buffer
+-- bytes that start the buffer
 pub put-all : {xs l m : List ℕ} {j : ℕ} → length xs ≤ length l → Put xs 0 l m j → (j ≡ length xs) × (m ≡ xs ++ drop j l)
 put-all {xs} {l} {m} {j} h p =
     let e : 0 + length xs ≡ j = sym (p .ends) in
