@@ -5,16 +5,13 @@ use Prim.Native.Nat.{ℕ}
 use Rattle.training_file.specs.declared.refusal.Refusal.{Refusal}
 use Rattle.training_file.specs.Refusal.{noRefusal}
 use Rattle.reading.specs.Reading.{Reading, refused, accepted, reading}
-use Rattle.dual_problem.specs.Problem.{BoundedDistance, Problem, bLow, bUp, problem, at}
+use Rattle.dual_problem.specs.Problem.{BoundedDistance, Problem, problem, at}
+use Rattle.thresholds.specs.Extremes.{thresholdsOf}
 use Rattle.certifying.specs.declared.certify.Certified.{Certified}
 use Rattle.certifying.specs.declared.certify.Certified.the-variants.{Refused, Found}
-use Rattle.certifying.specs.declared.certify.Thresholds.{Thresholds}
 use Rattle.certifying.specs.declared.multipliers.Judgement.{Judgement}
 use Rattle.certifying.specs.declared.multipliers.Judgement.the-variants as judged
 use Rattle.certifying.specs.Multipliers.{judgement}
-
-abbrev pub thresholdsOf : Problem → (ℕ → ℕ) → Thresholds
-thresholdsOf P a = record { lower = bLow P a; upper = bUp P a }
 
 -- judged multipliers: the refusal, or both thresholds
 abbrev pub certifyJudged : Problem → List ℕ → Judgement → Certified

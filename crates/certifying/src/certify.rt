@@ -1,27 +1,19 @@
 // Certifying: both thresholds of any feasible multipliers of any file.
-// `find_thresholds` is for the crates above, which have judged the multipliers; `certify` asks nothing.
 
 ghost use mathlib.Core.Path.{_≡_};
 ghost use Rattle.training_file.specs.Parameters.{Ranges};
 ghost use Rattle.reading.specs.Reading.{reading};
-ghost use Rattle.dual_problem.specs.Items.{Listed, MultipliersListed, problemOf};
-ghost use Rattle.dual_problem.specs.Problem.{at};
-ghost use Rattle.certifying.specs.Certify.{CertifiedDistance, certifiedRefusal, certifyItems, certifying, thresholdsOf};
+ghost use Rattle.dual_problem.specs.Items.{Listed, problemOf};
+ghost use Rattle.certifying.specs.Certify.{CertifiedDistance, certifiedRefusal, certifyItems, certifying};
 use super::multipliers::Judgement;
 use super::multipliers::judge;
-use dual_problem::gradient::fill_gradient;
 use reading::reader;
 use reading::reader::FileAnswer;
-use thresholds::extremes::find_extremes;
+use thresholds::extremes::Thresholds;
+use thresholds::extremes::find_thresholds;
 use training_file::item::Item;
 use training_file::parameters::Parameters;
 use training_file::refusal::Refusal;
-
-// b_low and b_up.
-pub struct Thresholds {
-    pub lower: i64,
-    pub upper: i64,
-}
 
 pub enum Certified {
     Refused(Refusal),
@@ -37,28 +29,6 @@ impl Certified {
             Certified::Refused(refusal) => refusal,
             Certified::Found(_) => Refusal::NONE,
         }
-    }
-}
-
-// Both thresholds of multipliers that were judged. G is worked out here, so that no list has to be lent for it.
-pub fn find_thresholds(
-    file: &[u8],
-    order: &[u16],
-    count: usize,
-    parameters: Parameters,
-    multipliers: &[u32],
-) -> Thresholds
-    requires { ⌜ MultipliersListed (now file) (now order) count parameters (now multipliers) ⌝ }
-    ensures { λ r. ⌜ r ≡ thresholdsOf (problemOf (now (file .entry)) parameters) (at (now (multipliers .entry))) ⌝ }
-{
-    let mut gradient = [0i64; Item::MAX_COUNT];
-    fill_gradient(file, order, count, parameters, multipliers, &mut gradient);
-    let found = find_extremes(file, order, count, parameters, multipliers, &gradient);
-    let low = found.low;
-    let up = found.up;
-    Thresholds {
-        lower: low.value(),
-        upper: up.value(),
     }
 }
 

@@ -19,11 +19,11 @@ use Rattle.dual_problem.specs.Size.{gradientMost}
 use Rattle.dual_problem.specs.Kernel.{kernelBetween}
 use Rattle.dual_problem.specs.Problem.{problem, at}
 use Rattle.dual_problem.specs.Items.{MultipliersListed, weighedSum}
+use Rattle.thresholds.specs.declared.extremes.Thresholds.{Thresholds}
+use Rattle.thresholds.specs.Extremes.{thresholdsOf}
 use Rattle.certifying.specs.declared.multipliers.Judgement.{Judgement}
 use Rattle.certifying.specs.declared.multipliers.Judgement.the-variants as judged
-use Rattle.certifying.specs.declared.certify.Thresholds.{Thresholds}
 use Rattle.certifying.specs.Multipliers.{judgement}
-use Rattle.certifying.specs.Certify.{thresholdsOf}
 use Rattle.classifying.specs.declared.classify.Class.{Class}
 use Rattle.classifying.specs.declared.classify.Class.the-variants.{LookedUp, PassedOver, Undecided}
 use Rattle.classifying.specs.declared.classify.Classified.{Classified}

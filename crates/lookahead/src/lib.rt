@@ -9,12 +9,12 @@ pub mod train;
 // The types of the answers and of what they hold, and the label by which `dual_problem::label::ceiling` tells a ceiling, by the name of this
 // library.
 pub use certifying::certify::Certified;
-pub use certifying::certify::Thresholds;
 pub use classifying::classify::Class;
 pub use classifying::classify::Classified;
 pub use reading::reader::FileAnswer;
 pub use smo::ending::Ending;
 pub use smo::run::Trained;
+pub use thresholds::extremes::Thresholds;
 pub use training::train::Training;
 pub use training_file::item::Label;
 pub use training_file::parameters::Kernel;

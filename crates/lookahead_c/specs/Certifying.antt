@@ -6,9 +6,9 @@ use Rattle.training_file.specs.declared.item.Item.{Item}
 use Rattle.training_file.specs.declared.refusal.Refusal.{Refusal}
 use Rattle.reading.specs.Reading.{Reading, refused, accepted}
 use Rattle.dual_problem.specs.Problem.{BoundedDistance, problem, at}
+use Rattle.thresholds.specs.declared.extremes.Thresholds.{Thresholds}
 use Rattle.certifying.specs.declared.certify.Certified.{Certified}
 use Rattle.certifying.specs.declared.certify.Certified.the-variants.{Refused, Found}
-use Rattle.certifying.specs.declared.certify.Thresholds.{Thresholds}
 use Rattle.certifying.specs.Certify.{certifiedRefusal}
 
 -- both lent numbers after the call, by those before it: a refusal changes neither

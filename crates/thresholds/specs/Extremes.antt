@@ -1,4 +1,4 @@
--- The places that attain the thresholds, as the code finds them in one pass. Assumes nothing.
+-- The places that attain the thresholds, as the code finds them in one pass, and both thresholds. Assumes nothing.
 use mathlib.Core.Bool.{Bool, true, false, cond}
 use mathlib.Core.List.{List}
 use mathlib.Core.Option.{Option, none, some}
@@ -8,12 +8,13 @@ use lib.ListN.{getD}
 use lib.Signed.{ltZ}
 use Rattle.integers.specs.Extremum.{argmin, argmax}
 use Rattle.training_file.specs.declared.parameters.Parameters.{Parameters}
-use Rattle.dual_problem.specs.Problem.{Problem, up, low, at}
+use Rattle.dual_problem.specs.Problem.{Problem, up, low, bLow, bUp, at}
 use Rattle.dual_problem.specs.Items.{problemOf}
 use Rattle.thresholds.specs.declared.extremes.Best.{Best}
 use Rattle.thresholds.specs.declared.extremes.Best.the-variants.{Nothing, At}
 use Rattle.thresholds.specs.declared.extremes.Extremes.{Extremes}
 use Rattle.thresholds.specs.declared.extremes.Sets.{Sets}
+use Rattle.thresholds.specs.declared.extremes.Thresholds.{Thresholds}
 
 -- a place that was found, with its value
 abbrev pub bestOf : (ℕ → ℤ) → Option ℕ → Best
@@ -45,3 +46,7 @@ extremesOf P a g = record { low = bestOf g (argmax (P .count) (low P a) g); up =
 -- the same for the items of a file, with lists of multipliers and of G
 abbrev pub extremesIn : List ℕ → Parameters → List ℕ → List ℤ → Extremes
 extremesIn file p a g = extremesOf (problemOf file p) (at a) (λ i. getD g i (pos 0))
+
+-- both thresholds of multipliers
+abbrev pub thresholdsOf : Problem → (ℕ → ℕ) → Thresholds
+thresholdsOf P a = record { lower = bLow P a; upper = bUp P a }

@@ -1,14 +1,16 @@
-// The up set, the low set, and where the two thresholds are attained (document 01, "Grid definitions").
+// The up set, the low set, where the two thresholds are attained, and the thresholds (document 01, "Grid definitions").
 
 ghost use mathlib.Core.Path.{_≡_};
 ghost use Prim.Native.Nat.{_≤_, _<_};
 ghost use lib.ListN.{length};
 ghost use Rattle.reading.specs.Calls.{Tabled};
 ghost use Rattle.dual_problem.specs.Problem.{inUp, at};
-ghost use Rattle.dual_problem.specs.Items.{Listed, problemOf};
-ghost use Rattle.thresholds.specs.Extremes.{bestBeside, bestValue, extremesIn, setsOf};
+ghost use Rattle.dual_problem.specs.Items.{Listed, MultipliersListed, problemOf};
+ghost use Rattle.thresholds.specs.Extremes.{bestBeside, bestValue, extremesIn, setsOf, thresholdsOf};
+use dual_problem::gradient::fill_gradient;
 use dual_problem::label::ceiling;
 use reading::reader::fetch_label;
+use training_file::item::Item;
 use training_file::item::Label;
 use training_file::parameters::Parameters;
 
@@ -115,4 +117,32 @@ pub fn find_extremes(
         i += 1;
     }
     Extremes { low, up }
+}
+
+// b_low and b_up.
+pub struct Thresholds {
+    pub lower: i64,
+    pub upper: i64,
+}
+
+// Both thresholds of multipliers that were judged. G is worked out here, so that no list has to be lent for it.
+pub fn find_thresholds(
+    file: &[u8],
+    order: &[u16],
+    count: usize,
+    parameters: Parameters,
+    multipliers: &[u32],
+) -> Thresholds
+    requires { ⌜ MultipliersListed (now file) (now order) count parameters (now multipliers) ⌝ }
+    ensures { λ r. ⌜ r ≡ thresholdsOf (problemOf (now (file .entry)) parameters) (at (now (multipliers .entry))) ⌝ }
+{
+    let mut gradient = [0i64; Item::MAX_COUNT];
+    fill_gradient(file, order, count, parameters, multipliers, &mut gradient);
+    let found = find_extremes(file, order, count, parameters, multipliers, &gradient);
+    let low = found.low;
+    let up = found.up;
+    Thresholds {
+        lower: low.value(),
+        upper: up.value(),
+    }
 }

@@ -32,7 +32,7 @@ use Rattle.dual_problem.proofs.Laws.Problem.Zeros.{b-low-zeros, b-up-zeros, zer
 use Rattle.dual_problem.specs.Items.{weighedSum}
 use Rattle.dual_problem.specs.Size.{gradientMost, scoreMost, weighedMost}
 use Rattle.dual_problem.proofs.Laws.Items.Read.{labels-present}
-use Rattle.certifying.specs.declared.certify.Thresholds.{Thresholds}
+use Rattle.thresholds.specs.declared.extremes.Thresholds.{Thresholds}
 use Rattle.certifying.specs.declared.multipliers.Judgement.{Judgement}
 use Rattle.certifying.specs.declared.multipliers.Judgement.the-variants as judged
 use Rattle.certifying.specs.Multipliers.{balance, judgement, withinCeilings}

@@ -6,9 +6,9 @@ use native.Mathlib.Omega.{arith}
 use Rattle.training_file.specs.Refusal.{certifyingRefuses}
 use Rattle.training_file.proofs.Laws.Refusal.{number-some}
 use Rattle.reading.specs.Reading.{Reading, refused, accepted, reading}
+use Rattle.thresholds.specs.declared.extremes.Thresholds.{Thresholds}
 use Rattle.certifying.specs.declared.certify.Certified.{Certified}
 use Rattle.certifying.specs.declared.certify.Certified.the-variants.{Refused, Found}
-use Rattle.certifying.specs.declared.certify.Thresholds.{Thresholds}
 use Rattle.certifying.specs.Certify.{CertifiedDistance, certifying}
 use Rattle.certifying.proofs.Laws.Certify.{certified-distance}
 use Rattle.lookahead_c.specs.Refusals.{CertifyRefusals}

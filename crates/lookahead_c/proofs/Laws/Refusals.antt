@@ -21,9 +21,9 @@ use Rattle.reading.specs.Reading.{Reading, refused, accepted, reading}
 use Rattle.reading.specs.Calls.{fileAnswer, fileRefusal}
 use Rattle.reading.proofs.Laws.Reading.Fault.{refused-one-of}
 use Rattle.dual_problem.specs.Problem.{Problem, problem, at}
+use Rattle.thresholds.specs.declared.extremes.Thresholds.{Thresholds}
 use Rattle.certifying.specs.declared.certify.Certified.{Certified}
 use Rattle.certifying.specs.declared.certify.Certified.the-variants as certified
-use Rattle.certifying.specs.declared.certify.Thresholds.{Thresholds}
 use Rattle.certifying.specs.declared.multipliers.Judgement.{Judgement}
 use Rattle.certifying.specs.declared.multipliers.Judgement.the-variants as judged
 use Rattle.certifying.specs.Multipliers.{balance, judgement, withinCeilings}

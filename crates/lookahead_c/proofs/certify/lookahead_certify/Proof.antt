@@ -5,8 +5,8 @@ use mir.Val.{toZ, ofZ}
 use borrow.Author.Needs.{needs}
 use Rattle.training_file.specs.declared.refusal.Refusal.{Refusal}
 use Rattle.reading.specs.Reading.{reading}
+use Rattle.thresholds.specs.declared.extremes.Thresholds.{Thresholds}
 use Rattle.certifying.specs.declared.certify.Certified.{Certified}
-use Rattle.certifying.specs.declared.certify.Thresholds.{Thresholds}
 use Rattle.certifying.specs.Certify.{certifiedRefusal, certifying}
 use Rattle.lookahead_c.specs.Certifying.{CertifySeen, SeenDistance, certifyFound, certifySeen}
 use Rattle.lookahead_c.proofs.Laws.Certifying.{seen-distance}

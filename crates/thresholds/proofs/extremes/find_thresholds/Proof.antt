@@ -1,4 +1,4 @@
--- `certifying::certify::find_thresholds` meets its contract: the list was filled with G, so that the values of its extremes are the
+-- `thresholds::extremes::find_thresholds` meets its contract: the list was filled with G, so that the values of its extremes are the
 -- thresholds. Assumes nothing.
 use mathlib.Core.Path.{_≡_, _∙_, ap}
 use Prim.Native.Nat.{ℕ, _<_}
@@ -11,10 +11,10 @@ use Rattle.integers.proofs.Laws.Bounds.{reads-element}
 use Rattle.integers.proofs.Laws.Written.{written-at}
 use Rattle.dual_problem.specs.Problem.{Problem, gradient, at}
 use Rattle.dual_problem.specs.Items.{problemOf}
 use Rattle.thresholds.specs.Extremes.{bestValue}
 use Rattle.thresholds.proofs.Laws.Extremes.{low-value, up-value}
-use Rattle.certifying.proofs.certify.find_thresholds.Statement.{statement}
-use Rattle.certifying.proofs.certify.find_thresholds.Tie as tie
+use Rattle.thresholds.proofs.extremes.find_thresholds.Statement.{statement}
+use Rattle.thresholds.proofs.extremes.find_thresholds.Tie as tie
 
 abbrev P : tie.Start → Problem
 P s = problemOf (s .args .file .now) (s .args .parameters)
