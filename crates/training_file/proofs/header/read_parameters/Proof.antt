@@ -8,7 +8,7 @@ use borrow.Author.Needs.{needs}
 use borrow.Author.Tests.{not-true, not-false}
 use Rattle.training_file.specs.declared.parameters.Parameters.{Parameters}
 use Rattle.training_file.specs.declared.parameters.ParametersAnswer.the-variants.{Refused, Allowed}
-use Rattle.training_file.specs.Layout.{featuresInUse, firstRecord, kernelByte, recordsStored, spare}
+use Rattle.training_file.specs.Layout.{featuresInUse, firstRecord, kernelByte, recordsStored, secondUnits, spare}
 use Rattle.training_file.specs.Parameters.{kernelAllowed, kernelOfByte, parametersAllowed}
 use Rattle.training_file.specs.Header.{headerAllowed, parametersOf}
 use Rattle.training_file.proofs.Laws.Answers.{kernel-known, kernel-unknown}
@@ -115,6 +115,9 @@ module _ (c : tie.After-allowed) where
         budget = c .before .u32-at4 .result;
       }
 
+  second-is : c .before .before .before .u32-at3 .result ≡ secondUnits bytes
+  second-is = c .before .before .before .u32-at3 .ensures
+
   read-is : read ≡ parametersOf bytes
   read-is i =
       record {
@@ -122,7 +125,7 @@ module _ (c : tie.After-allowed) where
         kernel = sym (kernel-is .1) i;
         grid = c .before .before .before .before .before .u32-at .ensures i;
         ceiling = c .before .before .before .before .u32-at2 .ensures i;
-        second = c .before .before .before .u32-at3 .ensures i;
+        second = second-is i;
         tolerance = c .before .before .u64-at .ensures i;
         budget = c .before .u32-at4 .ensures i;
       }
