@@ -5,13 +5,13 @@ ghost use mathlib.Core.Path.{_≡_};
 ghost use Rattle.training_file.specs.Item.{itemIn};
 ghost use Rattle.reading.specs.Reading.{reading};
 ghost use Rattle.reading.specs.Calls.{fileRefusal, Tabled, itemsIn, fileAnswer, tableAfter};
+use super::header;
+use super::header::ParametersAnswer;
 use chain::walks;
 use training_file::count::Count;
-use training_file::header;
 use training_file::item::Item;
 use training_file::item::Label;
 use training_file::parameters::Parameters;
-use training_file::parameters::ParametersAnswer;
 use training_file::record;
 use training_file::refusal::Refusal;
 

@@ -9,16 +9,12 @@ use Rattle.training_file.specs.declared.count.Count.{Count}
 use Rattle.training_file.specs.declared.count.Count.the-variants as count
 use Rattle.training_file.specs.declared.parameters.KernelAnswer.{KernelAnswer}
 use Rattle.training_file.specs.declared.parameters.KernelAnswer.the-variants as kernel
-use Rattle.training_file.specs.declared.parameters.ParametersAnswer.{ParametersAnswer}
-use Rattle.training_file.specs.declared.parameters.ParametersAnswer.the-variants as parameters
 use Rattle.training_file.specs.declared.item.ItemAnswer.{ItemAnswer}
 use Rattle.training_file.specs.declared.item.LabelAnswer.{LabelAnswer}
 use Rattle.training_file.specs.declared.item.LabelAnswer.the-variants as label
 use Rattle.training_file.specs.Refusal.{noRefusal, refusal}
-use Rattle.training_file.specs.Layout.{recordsStored}
 use Rattle.training_file.specs.Parameters.{kernelAllowed, kernelOfByte}
 use Rattle.training_file.specs.Item.{itemAllowed, itemOf}
-use Rattle.training_file.specs.Header.{headerAllowed, lengthAllowed, parametersOf}
 use Rattle.training_file.specs.Record.{labelAt, recordAllowed}
 
 -- ---- counts, which several stages answer
@@ -31,12 +27,7 @@ abbrev pub countRefusal : Count → Refusal
 countRefusal (count.Refused why) = why
 countRefusal (count.Counted n) = noRefusal
 
--- ---- refusal 1: the number of records stored
-
-abbrev pub storedAnswer : List ℕ → Count
-storedAnswer file = countIf (lengthAllowed file) 1 (recordsStored file)
-
--- ---- refusal 2: "a header field beyond its range"
+-- ---- refusal 2: "a header field beyond its range", here the kernel
 
 abbrev pub kernelAnswer : ℕ → KernelAnswer
 kernelAnswer byte = cond (kernelAllowed byte) (kernel.Known (kernelOfByte byte)) (kernel.Refused (refusal 2))
@@ -44,13 +35,6 @@ kernelAnswer byte = cond (kernelAllowed byte) (kernel.Known (kernelOfByte byte))
 abbrev pub kernelRefusal : KernelAnswer → Refusal
 kernelRefusal (kernel.Refused why) = why
 kernelRefusal (kernel.Known known) = noRefusal
-
-abbrev pub headerAnswer : List ℕ → ParametersAnswer
-headerAnswer file = cond (headerAllowed file) (parameters.Allowed (parametersOf file)) (parameters.Refused (refusal 2))
-
-abbrev pub parametersRefusal : ParametersAnswer → Refusal
-parametersRefusal (parameters.Refused why) = why
-parametersRefusal (parameters.Allowed p) = noRefusal
 
 -- ---- an item, of a label's byte and sixteen features of which the first d are in use
 

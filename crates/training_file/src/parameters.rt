@@ -2,7 +2,7 @@
 
 ghost use mathlib.Core.Path.{_≡_};
 ghost use Rattle.training_file.specs.Parameters.{byteOfKernel, ceilingsAllowed, parametersAllowed};
-ghost use Rattle.training_file.specs.Answers.{kernelAnswer, kernelRefusal, parametersRefusal};
+ghost use Rattle.training_file.specs.Answers.{kernelAnswer, kernelRefusal};
 use super::item::Item;
 use super::range::within;
 use super::refusal::Refusal;
@@ -80,23 +80,6 @@ pub struct Parameters {
     pub tolerance: u64,
     // How many steps training may take.
     pub budget: u32,
-}
-
-pub enum ParametersAnswer {
-    Refused(Refusal),
-    Allowed(Parameters),
-}
-
-impl ParametersAnswer {
-    // The refusal, where this is one; allowed parameters are no refusal, and give the number 0.
-    pub fn refusal(self) -> Refusal
-        ensures { λ r. ⌜ r ≡ parametersRefusal self ⌝ }
-    {
-        match self {
-            ParametersAnswer::Refused(refusal) => refusal,
-            ParametersAnswer::Allowed(_) => Refusal::NONE,
-        }
-    }
 }
 
 impl Parameters {

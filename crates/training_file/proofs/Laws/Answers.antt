@@ -1,4 +1,4 @@
--- Laws of the answers: what an answer says of the file, of a byte, or of a record. Assumes nothing.
+-- Laws of the answers: what an answer says of a test, of a byte, or of a record. Assumes nothing.
 use mathlib.Core.Path.{_≡_}
 use mathlib.Core.Bool.{Bool, true, false}
 use mathlib.Core.List.{List}
@@ -9,14 +9,11 @@ use Rattle.training_file.specs.declared.refusal.Refusal.{Refusal}
 use Rattle.training_file.specs.declared.count.Count.the-variants as count
 use Rattle.training_file.specs.declared.parameters.Kernel.{Kernel}
 use Rattle.training_file.specs.declared.parameters.KernelAnswer.the-variants as kernel-answer
-use Rattle.training_file.specs.declared.parameters.Parameters.{Parameters}
-use Rattle.training_file.specs.declared.parameters.ParametersAnswer.the-variants as parameters-answer
 use Rattle.training_file.specs.declared.item.Label.{Label}
 use Rattle.training_file.specs.declared.item.LabelAnswer.the-variants as label-answer
 use Rattle.training_file.specs.Parameters.{kernelAllowed, kernelOfByte}
-use Rattle.training_file.specs.Header.{headerAllowed, parametersOf}
 use Rattle.training_file.specs.Record.{labelAt, recordAllowed}
-use Rattle.training_file.specs.Answers.{countIf, headerAnswer, kernelAnswer, recordAnswer}
+use Rattle.training_file.specs.Answers.{countIf, kernelAnswer, recordAnswer}
 
 module _ (test : Bool) (number n : ℕ) where
   pub if-counted : (k : ℕ) → countIf test number n ≡ count.Counted k → (test ≡ true) × (n ≡ k)
@@ -34,15 +31,6 @@ kernel-known byte kernel e =
 
 pub kernel-unknown : (byte : ℕ) (why : Refusal) → kernelAnswer byte ≡ kernel-answer.Refused why → kernelAllowed byte ≡ false
 kernel-unknown byte why e = chose-second (kernelAllowed byte) (λ q. let z : _≡_ {A = ℕ} 0 1 = cc in omega arith) e .0
-
-module _ (file : List ℕ) where
-  pub header-allowed : (p : Parameters) → headerAnswer file ≡ parameters-answer.Allowed p → (headerAllowed file ≡ true) × (parametersOf file ≡ p)
-  header-allowed p e =
-      let chose = chose-first (headerAllowed file) (λ q. let z : _≡_ {A = ℕ} 0 1 = cc in omega arith) e in
-      (chose .0, let same = chose .1 in cc)
-
-  pub header-refused : (why : Refusal) → headerAnswer file ≡ parameters-answer.Refused why → headerAllowed file ≡ false
-  header-refused why e = chose-second (headerAllowed file) (λ q. let z : _≡_ {A = ℕ} 0 1 = cc in omega arith) e .0
 
 module _ (d : ℕ) (file : List ℕ) (r : ℕ) where
   pub record-known : (label : Label) → recordAnswer d file r ≡ label-answer.Known label

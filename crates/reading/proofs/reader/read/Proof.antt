@@ -11,10 +11,10 @@ use Rattle.training_file.specs.declared.item.Label.the-variants.{LookedUp}
 use Rattle.training_file.specs.declared.item.Item.{Item}
 use Rattle.training_file.specs.Layout.{recordsStored}
 use Rattle.training_file.specs.Refusal.{refusal}
-use Rattle.training_file.specs.Answers.{parametersRefusal, countIf, countRefusal}
+use Rattle.training_file.specs.Answers.{countIf, countRefusal}
 use Rattle.training_file.specs.Record.{itemAt, recordAllowed, every}
 use Rattle.training_file.specs.Item.{labelled, bothLabels}
-use Rattle.training_file.proofs.Laws.Answers.{if-counted, if-refused, header-allowed, header-refused}
+use Rattle.training_file.proofs.Laws.Answers.{if-counted, if-refused}
 use Rattle.training_file.specs.Header.{headerAllowed, lengthAllowed, parametersOf, WholeFile}
 use Rattle.training_file.proofs.Laws.Item.{labels-all, labels-both, labels-none}
 use Rattle.training_file.proofs.Laws.Header.{allowed-whole}
@@ -23,8 +23,10 @@ use Rattle.chain.specs.Chain.{chainOf}
 use Rattle.chain.specs.Stages.{Chained, judgeAnswer, orderOf, walkAnswer}
 use Rattle.chain.proofs.Laws.Stages.{walk-counted, walk-refused}
 use Rattle.reading.specs.declared.reader.FileAnswer.the-variants.{Refused, Accepted}
+use Rattle.reading.specs.Header.{parametersRefusal}
 use Rattle.reading.specs.Reading.{reading}
 use Rattle.reading.specs.Calls.{fileAnswer}
+use Rattle.reading.proofs.Laws.Header.{header-allowed, header-refused}
 use Rattle.reading.proofs.Laws.Reading.{reads-1, reads-2, reads-4, reads-5, reads-all, reads-broken}
 use Rattle.reading.proofs.reader.read.Statement.{statement}
 use Rattle.reading.proofs.reader.read.Tie as tie

@@ -1,4 +1,4 @@
--- `training_file::header::read_parameters` meets its contract: each answer follows from the tests before it. Assumes nothing.
+-- `reading::header::read_parameters` meets its contract: each answer follows from the tests before it. Assumes nothing.
 use mathlib.Core.Path.{_≡_, sym, ap, _∙_}
 use mathlib.Core.Bool.{true}
 use mathlib.Core.List.{List}
@@ -6,16 +6,16 @@ use Prim.Native.Nat.{ℕ, _≤_, _<_}
 use native.Mathlib.Omega.{arith}
 use borrow.Author.Needs.{needs}
 use borrow.Author.Tests.{not-true, not-false}
 use Rattle.training_file.specs.declared.parameters.Parameters.{Parameters}
-use Rattle.training_file.specs.declared.parameters.ParametersAnswer.the-variants.{Refused, Allowed}
 use Rattle.training_file.specs.Layout.{featuresInUse, firstRecord, kernelByte, recordsStored, secondUnits, spare}
 use Rattle.training_file.specs.Parameters.{kernelAllowed, kernelOfByte, parametersAllowed}
 use Rattle.training_file.specs.Header.{headerAllowed, parametersOf}
 use Rattle.training_file.proofs.Laws.Answers.{kernel-known, kernel-unknown}
 use Rattle.training_file.specs.Answers.{kernelRefusal}
 use Rattle.training_file.proofs.Laws.Header.{first-refused, kernel-refused, parameters-decide, spare-refused}
-use Rattle.training_file.proofs.header.read_parameters.Statement.{statement}
-use Rattle.training_file.proofs.header.read_parameters.Tie as tie
+use Rattle.reading.specs.declared.header.ParametersAnswer.the-variants.{Refused, Allowed}
+use Rattle.reading.proofs.header.read_parameters.Statement.{statement}
+use Rattle.reading.proofs.header.read_parameters.Tie as tie
 
 u16-at-requires : tie.Need-u16-at-requires
 u16-at-requires c κs = search needs

@@ -1,10 +1,10 @@
--- `training_file::header::count_records` meets its contract: each answer follows from the tests before it. Assumes nothing.
+-- `reading::header::count_records` meets its contract: each answer follows from the tests before it. Assumes nothing.
 use mathlib.Core.Path.{ap}
 use borrow.Author.Needs.{needs}
 use Rattle.training_file.specs.declared.count.Count.the-variants.{Counted}
 use Rattle.training_file.proofs.Laws.Header.{length-allowed, length-refused, many-refused, short-refused}
-use Rattle.training_file.proofs.header.count_records.Statement.{statement}
-use Rattle.training_file.proofs.header.count_records.Tie as tie
+use Rattle.reading.proofs.header.count_records.Statement.{statement}
+use Rattle.reading.proofs.header.count_records.Tie as tie
 
 returns : tie.Need-returns
 returns c = rw (short-refused _ (c .if1 .taken))

@@ -1,9 +1,9 @@
--- `training_file::parameters::ParametersAnswer::refusal` meets its contract. Assumes nothing.
+-- `reading::header::ParametersAnswer::refusal` meets its contract. Assumes nothing.
 use mathlib.Core.Path.{sym, ap}
 use borrow.Author.Needs.{needs}
-use Rattle.training_file.specs.Answers.{parametersRefusal}
-use Rattle.training_file.proofs.parameters.ParametersAnswer.refusal.Statement.{statement}
-use Rattle.training_file.proofs.parameters.ParametersAnswer.refusal.Tie as tie
+use Rattle.reading.specs.Header.{parametersRefusal}
+use Rattle.reading.proofs.header.ParametersAnswer.refusal.Statement.{statement}
+use Rattle.reading.proofs.header.ParametersAnswer.refusal.Tie as tie
 
 enum-known-self : tie.Need-enum-known-self
 enum-known-self c = search needs

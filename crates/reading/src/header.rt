@@ -1,21 +1,37 @@
-// The header: the length that it promises, and the parameters that it holds. What `read_parameters` requires is met by `reading`, which asks
-// `count_records` first.
+// The header: the length that it promises, and the parameters that it holds.
 
 ghost use mathlib.Core.Path.{_≡_};
 ghost use Prim.Native.Nat.{_≤_};
 ghost use lib.ListN.{length};
-ghost use Rattle.training_file.specs.Answers.{storedAnswer, headerAnswer};
-use super::bytes::u16_at;
-use super::bytes::u32_at;
-use super::bytes::u64_at;
-use super::count::Count;
-use super::item::Item;
-use super::layout;
-use super::parameters::Kernel;
-use super::parameters::KernelAnswer;
-use super::parameters::Parameters;
-use super::parameters::ParametersAnswer;
-use super::refusal::Refusal;
+ghost use Rattle.reading.specs.Header.{headerAnswer, parametersRefusal, storedAnswer};
+use training_file::bytes::u16_at;
+use training_file::bytes::u32_at;
+use training_file::bytes::u64_at;
+use training_file::count::Count;
+use training_file::item::Item;
+use training_file::layout;
+use training_file::parameters::Kernel;
+use training_file::parameters::KernelAnswer;
+use training_file::parameters::Parameters;
+use training_file::refusal::Refusal;
+
+// The parameters of a header, or the refusal.
+pub enum ParametersAnswer {
+    Refused(Refusal),
+    Allowed(Parameters),
+}
+
+impl ParametersAnswer {
+    // The refusal, where this is one; allowed parameters are no refusal, and give the number 0.
+    pub fn refusal(self) -> Refusal
+        ensures { λ r. ⌜ r ≡ parametersRefusal self ⌝ }
+    {
+        match self {
+            ParametersAnswer::Refused(refusal) => refusal,
+            ParametersAnswer::Allowed(_) => Refusal::NONE,
+        }
+    }
+}
 
 // How many records are stored. Refused where the file does not have the length of its header and so many records.
 pub fn count_records(file: &[u8]) -> Count
