@@ -1,189 +1,19 @@
-//! The files of document 01's settled examples, our own for the second ceiling
-//! and the overlap, and four at the ends of what a training can be.
+//! Files beside the settled ones: the cases that document 01 has run only, its
+//! example of the training program, and what is at the ends of what can be.
 
 use crate::file::{MOST_RECORDS, RECORD_BYTES, STORED_FEATURES};
-use crate::generate::draft::{Draft, LINEAR, LOOKED_UP, OVERLAP, PASSED_OVER, SQUARE};
-
-/// "±1 file": d = 1, linear, item + with feature 1, item − with feature −1,
-/// budget 50.
-pub fn plus_minus_one(units: u32, ceiling: u32, tolerance: u64) -> Draft {
-    Draft {
-        features: 1,
-        kernel: LINEAR,
-        units,
-        ceiling,
-        tolerance,
-        budget: 50,
-        second_ceiling: 0,
-        items: vec![(LOOKED_UP, vec![1]), (PASSED_OVER, vec![-1])],
-    }
-}
-
-pub fn p1() -> Draft {
-    plus_minus_one(10, 100, 0)
-}
-
-pub fn p2() -> Draft {
-    Draft { ceiling: 3, ..p1() }
-}
-
-pub fn p3() -> Draft {
-    plus_minus_one(1, 10, 0)
-}
-
-pub fn p4() -> Draft {
-    Draft {
-        tolerance: 1,
-        ..p3()
-    }
-}
-
-pub fn p5() -> Draft {
-    Draft { budget: 0, ..p3() }
-}
-
-pub fn p6() -> Draft {
-    Draft { budget: 0, ..p1() }
-}
-
-pub fn p7() -> Draft {
-    let items = vec![(LOOKED_UP, vec![1]), (PASSED_OVER, vec![1])];
-    Draft {
-        items,
-        ..plus_minus_one(10, 7, 0)
-    }
-}
-
-pub fn p8() -> Draft {
-    Draft {
-        kernel: SQUARE,
-        ..plus_minus_one(16, 100, 0)
-    }
-}
-
-pub fn p9() -> Draft {
-    let items = vec![
-        (LOOKED_UP, vec![10]),
-        (PASSED_OVER, vec![-10]),
-        (PASSED_OVER, vec![10]),
-    ];
-    Draft {
-        items,
-        ..plus_minus_one(1, 2, 0)
-    }
-}
-
-/// The files of P1 to P9; P10 to P12 use that of P1.
-pub fn settled() -> Vec<Vec<u8>> {
-    [p1(), p2(), p3(), p4(), p5(), p6(), p7(), p8(), p9()]
-        .iter()
-        .map(Draft::plain)
-        .collect()
-}
-
-/// The second ceiling stops the item passed over, far below c.
-pub fn f1() -> Draft {
-    Draft {
-        second_ceiling: 3,
-        ..p1()
-    }
-}
-
-/// c stops the item looked up, far below the second ceiling.
-pub fn f2() -> Draft {
-    Draft {
-        second_ceiling: 100,
-        ..p2()
-    }
-}
-
-/// P1 with c given twice.
-pub fn f3() -> Draft {
-    Draft {
-        second_ceiling: 100,
-        ..p1()
-    }
-}
-
-/// P1 with a second ceiling beyond its range.
-pub fn f4() -> Draft {
-    Draft {
-        second_ceiling: 65_537,
-        ..p1()
-    }
-}
-
-/// Two items passed over, alike, go to the second ceiling one after the other.
-pub fn f6() -> Draft {
-    let items = vec![
-        (LOOKED_UP, vec![1]),
-        (PASSED_OVER, vec![-1]),
-        (PASSED_OVER, vec![-1]),
-    ];
-    Draft {
-        items,
-        second_ceiling: 2,
-        ..p1()
-    }
-}
+use crate::generate::draft::{Draft, LOOKED_UP, OVERLAP, PASSED_OVER};
+use crate::settled::{f6, p1, plus_minus_one};
 
 /// The file of F6 with each ceiling at an end of its range.
-fn ceilings_at_the_ends() -> Vec<Draft> {
+pub fn ceilings_at_the_ends() -> Vec<Vec<u8>> {
     let ends = [(1, 1), (1, 65_536), (65_536, 1), (65_536, 65_536)];
-    let draft = |&(ceiling, second_ceiling): &(u32, u32)| Draft {
+    let draft = |(ceiling, second_ceiling)| Draft {
         ceiling,
         second_ceiling,
         ..f6()
     };
-    ends.iter().map(draft).collect()
-}
-
-/// The files of F1 to F4 and F6, our own examples, and those at the ends; F5 uses
-/// the files of F1 and F2.
-pub fn second_ceilings() -> Vec<Vec<u8>> {
-    let mut drafts = vec![f1(), f2(), f3(), f4(), f6()];
-    drafts.extend(ceilings_at_the_ends());
-    drafts.iter().map(Draft::plain).collect()
-}
-
-/// P1 with the overlap.
-pub fn i1() -> Draft {
-    Draft {
-        kernel: OVERLAP,
-        ..p1()
-    }
-}
-
-/// The items at the ends of the range of a feature, raised to 254 and to 0.
-pub fn i2() -> Draft {
-    let items = vec![(LOOKED_UP, vec![127]), (PASSED_OVER, vec![-127])];
-    Draft {
-        units: 127,
-        items,
-        ..i1()
-    }
-}
-
-/// P7 with the overlap: both features are 1, and η is 0.
-pub fn i3() -> Draft {
-    Draft {
-        kernel: OVERLAP,
-        ..p7()
-    }
-}
-
-/// P1 with a kernel beyond its range.
-pub fn i7() -> Draft {
-    Draft {
-        kernel: OVERLAP + 1,
-        ..p1()
-    }
-}
-
-/// The files of I1 to I3 and I7, our own examples; I4 and I5 use the file of I1,
-/// and I6 that of I2.
-pub fn overlaps() -> Vec<Vec<u8>> {
-    [i1(), i2(), i3(), i7()].iter().map(Draft::plain).collect()
+    ends.map(|both| draft(both).plain()).to_vec()
 }
 
 /// The example of the training program: three records, first 3, record 2 spare.

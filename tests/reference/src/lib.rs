@@ -18,6 +18,7 @@ pub mod kernel;
 mod listing;
 mod pair;
 mod refusal;
+pub mod settled;
 mod state;
 pub mod thresholds;
 mod training;

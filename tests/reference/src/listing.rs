@@ -1,7 +1,7 @@
 //! What the training program prints: document 01, end of "Settled examples", and document 02, requests (k) and (l).
 
 use crate::file::{read, Item, Label, MOST_RECORDS};
-use crate::training::{train, Ending, Trained};
+use crate::training::{train, Trained};
 
 /// `refused` with the number and, where it carries one, the record; or the result
 /// line, one line per item in chain order and the totals of these.
@@ -16,11 +16,7 @@ pub fn listing(file: &[u8]) -> String {
 
 /// "Line one: ending, steps, b_low, b_up."
 fn result_line(trained: Trained) -> String {
-    let ending = match trained.ending {
-        Ending::Converged => "converged",
-        Ending::Stuck => "stuck",
-        Ending::Spent => "spent",
-    };
+    let ending = trained.ending.name();
     format!(
         "{ending} {} {} {}\n",
         trained.steps, trained.lower, trained.upper

@@ -1,21 +1,23 @@
-//! The settled examples P1 to P12, the cases that are run only, every cause of a
-//! refusal, and how often words on the line are drawn.
+//! The cases that are run only, every cause of a refusal, what is printed, and how
+//! often words on the line are drawn.
 
 mod ceilings;
 mod chains;
 mod overlap;
 mod samples;
+mod settled;
 
 use crate::certify::thresholds_of;
-use crate::classify::{doubled_score, score};
+use crate::classify::score;
 use crate::examples::*;
 use crate::file::{read, MOST_RECORDS};
 use crate::generate::draft::{any_feature, Draft, LOOKED_UP, PASSED_OVER};
 use crate::generate::mirror::Mirror;
 use crate::generate::{any_file, causes, multipliers, words, Random};
 use crate::kernel::Kernel;
+use crate::settled::{i1, p1, p3, p8, p9};
 use crate::training::{Ending, Trained};
-use crate::{certify, classify, contents, listing, run, train, Class, Contents, Refusal};
+use crate::{certify, classify, contents, listing, train, Class, Contents, Refusal};
 
 /// Trains into lists of just n places.
 fn trained(draft: &Draft) -> (Trained, Vec<u32>, Vec<i64>) {
@@ -23,29 +25,6 @@ fn trained(draft: &Draft) -> (Trained, Vec<u32>, Vec<i64>) {
     let mut gradient = vec![9; draft.items.len()];
     let result = train(&draft.plain(), &mut multipliers, &mut gradient).expect("accepted");
     (result, multipliers, gradient)
-}
-
-fn assert_trained(
-    draft: Draft,
-    ending: Ending,
-    steps: u32,
-    multipliers: &[u32],
-    lower: i64,
-    upper: i64,
-) {
-    let (result, left, gradient) = trained(&draft);
-    assert_eq!(
-        result,
-        Trained {
-            ending,
-            steps,
-            lower,
-            upper
-        }
-    );
-    assert_eq!(left, multipliers);
-    assert_eq!(certify(&draft.plain(), &left), Ok((lower, upper)));
-    assert!(gradient.contains(&lower) && gradient.contains(&upper));
 }
 
 /// A case, and whether what was drawn for a file shows it.
@@ -60,58 +39,6 @@ fn assert_frequent<Drawn>(cases: &[Case<Drawn>], numbered: impl Fn(u64) -> Optio
         let count = drawn.iter().filter(|drawn| shows(drawn)).count() as u64;
         assert!(200 * count >= FILES, "{case}: {count} of {FILES}");
     }
-}
-
-#[test]
-fn p1_to_p9_train_as_settled() {
-    use Ending::*;
-    assert_trained(p1(), Converged, 1, &[5, 5], 0, 0);
-    assert_trained(p2(), Converged, 1, &[3, 3], -4, 4);
-    assert_trained(p3(), Stuck, 0, &[0, 0], 1, -1);
-    assert_trained(p4(), Converged, 0, &[0, 0], 1, -1);
-    assert_trained(p5(), Stuck, 0, &[0, 0], 1, -1);
-    assert_trained(p6(), Spent, 0, &[0, 0], 10, -10);
-    assert_trained(p7(), Converged, 1, &[7, 7], -10, 10);
-    assert_trained(p8(), Converged, 1, &[4, 4], 0, 0);
-    assert_trained(p9(), Converged, 1, &[2, 0, 2], 1, 1);
-}
-
-#[test]
-fn p9_takes_the_fallback_pair() {
-    let steps = run(&read(&p9().plain()).expect("accepted")).steps;
-    assert!(steps.len() == 1 && steps[0].pair.fallback);
-}
-
-#[test]
-fn p10_and_p11_certify_as_settled() {
-    let file = p1().plain();
-    assert_eq!(certify(&file, &[0, 0]), Ok((10, -10)));
-    assert_eq!(certify(&file, &[5, 4]), Err(8.into()));
-    assert_eq!(certify(&file, &[101, 100]), Err(7.into()));
-}
-
-#[test]
-fn p12_classifies_as_settled() {
-    let file = p1().plain();
-    assert_eq!(doubled_score(&file, &[5, 5], &[3]), Ok(60));
-    assert_eq!(classify(&file, &[5, 5], &[3]), Ok(Class::LookedUp));
-    assert_eq!(doubled_score(&file, &[5, 5], &[0]), Ok(0));
-    assert_eq!(classify(&file, &[5, 5], &[0]), Ok(Class::Undecided));
-}
-
-/// Items of features 1 and 0 have thresholds 1 and 0 with multipliers 1 1, so
-/// that no score is even.
-#[test]
-fn scores_of_1_and_minus_1_are_decided() {
-    let file = Draft {
-        items: vec![(LOOKED_UP, vec![1]), (PASSED_OVER, vec![0])],
-        ..p3()
-    }
-    .plain();
-    assert_eq!(doubled_score(&file, &[1, 1], &[0]), Ok(-1));
-    assert_eq!(classify(&file, &[1, 1], &[0]), Ok(Class::PassedOver));
-    assert_eq!(doubled_score(&file, &[1, 1], &[1]), Ok(1));
-    assert_eq!(classify(&file, &[1, 1], &[1]), Ok(Class::LookedUp));
 }
 
 /// Whether a word is on a line that decides one of the file's own items. Where
@@ -182,8 +109,9 @@ fn the_example_prints_as_settled() {
         listing(&p3().plain()),
         "stuck 0 1 -1\n1 + 0\n2 - 0\ntotal 0 0 0\n"
     );
+    let p6 = Draft { budget: 0, ..p1() };
     assert_eq!(
-        listing(&p6().plain()),
+        listing(&p6.plain()),
         "spent 0 10 -10\n1 + 0\n2 - 0\ntotal 0 0 0\n"
     );
     assert_eq!(

@@ -15,6 +15,16 @@ pub enum Ending {
     Spent,
 }
 
+impl Ending {
+    pub fn name(self) -> &'static str {
+        match self {
+            Ending::Converged => "converged",
+            Ending::Stuck => "stuck",
+            Ending::Spent => "spent",
+        }
+    }
+}
+
 /// "A trained result is the ending, steps, b_low and b_up."
 #[derive(Clone, Copy, PartialEq, Eq, Debug)]
 pub struct Trained {

@@ -7,8 +7,8 @@
 //! alone. The last file takes 70,880 steps; all others together take fewer than 2,000.
 
 use reference::examples::{
-    full_chain, largest_overlap, largest_totals, long_run, overlaps, run_only, second_ceilings,
-    settled, three_records,
+    ceilings_at_the_ends, full_chain, largest_overlap, largest_totals, long_run, run_only,
+    three_records,
 };
 use reference::generate::chains::{with_next, HIGHEST_NEXT};
 use reference::generate::draft::{LINEAR, OVERLAP, SQUARE};
@@ -17,7 +17,7 @@ use reference::generate::{
     with_relinked_spares, Random,
 };
 use reference::kernel::Kernel;
-use reference::{file, listing, run, Refusal, Run};
+use reference::{file, listing, run, settled, Refusal, Run};
 use std::collections::BTreeMap;
 use std::path::Path;
 
@@ -51,11 +51,12 @@ fn main() -> std::io::Result<()> {
 
 fn files() -> Vec<Vec<u8>> {
     let random = &mut Random::new(SEED);
-    let mut files = settled();
+    let mut files = settled::files("P");
     files.push(three_records());
     files.extend(run_only());
-    files.extend(second_ceilings());
-    files.extend(overlaps());
+    files.extend(settled::files("F"));
+    files.extend(ceilings_at_the_ends());
+    files.extend(settled::files("I"));
     files.extend(thinned(causes(random)));
     files.extend(largest(random));
     files.extend((0..SOUND).map(|_| sound(random)));

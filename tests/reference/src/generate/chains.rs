@@ -4,10 +4,11 @@
 use super::draft::{Draft, LOOKED_UP};
 use super::random::Random;
 use super::with;
-use crate::examples::{by_turns, full_chain, p1};
+use crate::examples::{by_turns, full_chain};
 use crate::file::{
     number, record_start, HEADER_BYTES, HIGHEST_CEILING, MOST_RECORDS, RECORD_BYTES,
 };
+use crate::settled::p1;
 
 /// Where fields are, in the header and in a record.
 const FIRST_RECORD: usize = 2;

@@ -10,7 +10,7 @@ pub mod random;
 pub mod sound;
 pub mod words;
 
-use crate::examples;
+use crate::{examples, settled};
 pub use chains::{broken, every_chain, with_relinked_spares};
 pub use damage::{causes, damaged, every_damage};
 pub use draft::Draft;
@@ -75,10 +75,9 @@ fn longest(random: &mut Random) -> Vec<u8> {
 pub fn systematic(random: &mut Random) -> Vec<Vec<u8>> {
     let mut files = vec![examples::long_run().plain(), longest(random)];
     files.extend(chains::full_chains());
-    files.extend(examples::settled());
+    files.extend(settled::table().into_iter().map(|case| case.file));
     files.extend(examples::run_only());
-    files.extend(examples::second_ceilings());
-    files.extend(examples::overlaps());
+    files.extend(examples::ceilings_at_the_ends());
     files.extend(causes(random).into_iter().map(|(_, file)| file));
     files.extend([1, 2, 3].into_iter().flat_map(every_chain));
     files.extend(chains::every_chain_beside_a_fault());

@@ -1,26 +1,14 @@
-//! Document 02, request (f): the second ceiling, our own examples of it, and how
-//! often each case of two ceilings is drawn.
+//! Document 02, request (f): the second ceiling, and how often each case of two
+//! ceilings is drawn.
 
-use super::{assert_frequent, assert_trained, Case};
+use super::{assert_frequent, Case};
 use crate::certify::{judge_count, judge_feasible};
-use crate::examples::{f1, f2, f3, f4, f6, p1, p2};
 use crate::file::{read, Label, Problem, HIGHEST_CEILING};
 use crate::generate::draft::Draft;
 use crate::generate::sound::FAR;
 use crate::generate::{any_file, multipliers, Random};
-use crate::training::Ending::Converged;
+use crate::settled::{f2, f6, p1, p2};
 use crate::{certify, classify, listing, run, Class};
-
-#[test]
-fn f1_to_f6_are_as_settled() {
-    assert_trained(f1(), Converged, 1, &[3, 3], -4, -4);
-    assert_trained(f2(), Converged, 1, &[3, 3], 4, 4);
-    assert_trained(f3(), Converged, 1, &[5, 5], 0, 0);
-    assert_eq!(listing(&f4().plain()), "refused 2\n");
-    assert_eq!(certify(&f1().plain(), &[4, 4]), Err(7.into()));
-    assert_eq!(certify(&f2().plain(), &[4, 4]), Err(7.into()));
-    assert_trained(f6(), Converged, 2, &[4, 2, 2], -2, -2);
-}
 
 fn with_second(second_ceiling: u32) -> Draft {
     Draft {

@@ -2,13 +2,14 @@
 //! carry, and how often each case is drawn.
 
 use super::{assert_frequent, Case};
-use crate::examples::{by_turns, full_chain, p1, three_records};
+use crate::examples::{by_turns, full_chain, three_records};
 use crate::file::{number, read, record_start, MOST_RECORDS};
 use crate::generate::chains::{
     chain, records, with_first, with_header_faults, with_label, with_next, HIGHEST_NEXT,
 };
 use crate::generate::draft::{Draft, LOOKED_UP};
 use crate::generate::{any_file, every_chain, Random};
+use crate::settled::p1;
 use crate::{certify, classify, contents, listing, train, Refusal};
 
 /// As many records as there are next numbers, with labels by turns.

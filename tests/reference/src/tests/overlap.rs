@@ -1,34 +1,15 @@
-//! Document 02, request (i): the overlap, our own examples of it, and how often
-//! each case of it is drawn.
+//! Document 02, request (i): the overlap, and how often each case of it is drawn.
 
-use super::{assert_frequent, assert_trained, eta, on_a_line, Case};
-use crate::classify::doubled_score;
-use crate::examples::{i1, i2, i3, i7, largest_overlap, p1};
+use super::{assert_frequent, eta, on_a_line, Case};
+use crate::examples::largest_overlap;
 use crate::file::{read, Problem, HIGHEST_FEATURE, LOWEST_FEATURE};
 use crate::generate::draft::{any_feature, Draft};
 use crate::generate::{any_file, multipliers, words, Random};
 use crate::gradient::{gradient, objective};
 use crate::kernel::{table, Kernel};
-use crate::training::Ending::{self, Converged};
-use crate::{certify, classify, listing, run, Class, Run};
-
-#[test]
-fn i1_to_i7_are_as_settled() {
-    assert_trained(i1(), Converged, 1, &[10, 10], 10, 10);
-    assert_trained(i2(), Converged, 1, &[1, 1], 127, 127);
-    assert_trained(i3(), Converged, 1, &[7, 7], -10, 10);
-    assert_eq!(certify(&i1().plain(), &[5, 5]), Ok((10, 0)));
-    for (draft, multiplier, word, score, class) in [
-        (i1(), 10, 3, 20, Class::LookedUp),
-        (i1(), 10, 0, 0, Class::Undecided),
-        (i2(), 1, -127, -254, Class::PassedOver),
-    ] {
-        let (file, multipliers) = (draft.plain(), [multiplier; 2]);
-        assert_eq!(doubled_score(&file, &multipliers, &[word]), Ok(score));
-        assert_eq!(classify(&file, &multipliers, &[word]), Ok(class));
-    }
-    assert_eq!(listing(&i7().plain()), "refused 2\n");
-}
+use crate::settled::p1;
+use crate::training::Ending;
+use crate::{certify, classify, run, Class, Run};
 
 /// "The header's kernel byte now allows 2 as well", and no other.
 #[test]
