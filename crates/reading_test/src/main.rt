@@ -1,5 +1,5 @@
 // Reads the training files of its input by both public calls, and writes a line for each: what the file is read as, and what the order
-// table holds afterwards. The files and the answers are another implementation's (tools/training_files.py).
+// table holds afterwards. The files and the answers are the second implementation's (tests/reference, program `stored`).
 
 ghost use Prim.Native.Nat.{_<_};
 use libc::STDIN_FILENO;

@@ -1,6 +1,7 @@
 // Runs the cases of its input through the library, a line each. They are document 01's settled examples P1 to P12, with the lines the
-// results settled there, our own E1 to E3, K1 to K4, F1 to F6 and I1 to I7, and words at the ends of the range (tools/settled_cases.py). That the
-// definitions give the settled results is the theorem `settled`; this shows the compiled code give them.
+// results settled there, our own E1 to E3, K1 to K4, F1 to F6 and I1 to I7, and words at the ends of the range; the table is
+// tests/reference/src/settled.rs. That the definitions give the settled results is the theorem `settled`; this shows the compiled code give
+// them.
 
 ghost use mathlib.Core.Path.{_≡_};
 ghost use Prim.Native.Nat.{_+_, _≤_};

@@ -1,5 +1,5 @@
 // Trains the stored training files of its input, each after its length in two bytes, and writes the listing of each below its number.
-// The files are of all kinds, and the listings are those of the second implementation (tests/reference, program `vectors`).
+// The files are of all kinds, and the listings are those of the second implementation (tests/reference, program `stored`).
 
 ghost use Prim.Native.Nat.{_<_};
 use libc::STDIN_FILENO;

@@ -1,7 +1,7 @@
 //! Damaged training files: every byte changed, every length, and each refusal
 //! of the file provoked by each of its causes.
 
-use super::chains::{chain, records, with_next};
+use super::chains::{chain, records, with_first, with_label, with_next};
 use super::draft::{any_feature, Draft, LINEAR, LOOKED_UP, NO_FEATURE, PASSED_OVER};
 use super::random::Random;
 use super::with;
@@ -20,6 +20,19 @@ pub fn damaged(file: &[u8], random: &mut Random) -> Vec<u8> {
     damaged
 }
 
+/// An accepted file after a change that leaves a label without an item: one label
+/// for all, or a chain that ends with its first record, or that is empty.
+pub fn one_sided(file: &[u8], random: &mut Random) -> Vec<u8> {
+    let chain = chain(file);
+    let label = random.pick(&[LOOKED_UP, PASSED_OVER]);
+    let alike = |file: Vec<u8>, &record| with_label(&file, record, label);
+    match random.below(4) {
+        0 => with_first(file, 0),
+        1 => with_next(file, chain[0], 0),
+        _ => chain.iter().fold(file.to_vec(), alike),
+    }
+}
+
 fn damage_once(file: &mut Vec<u8>, random: &mut Random) {
     match random.below(10) {
         0 => file.truncate(random.below(file.len() as u64 + 1) as usize),
@@ -27,26 +40,35 @@ fn damage_once(file: &mut Vec<u8>, random: &mut Random) {
             let more = random.pick(&[1, 19, 20, 21, 40]);
             file.extend(random.bytes(more));
         }
-        2..=4 => {
-            let byte = random.below(HEADER_BYTES as u64) as usize;
-            change(file, byte, random);
-        }
+        2..=4 => *file = with_changed_header(file, random),
         5 => lead_anywhere(file, random),
-        _ => {
-            if let Some(byte) = chained_byte(file, random) {
-                change(file, byte, random);
-            }
-        }
+        _ => *file = with_changed_record(file, random),
     }
 }
 
-/// Sets one byte to a neighbour of its value, to an end of its range, or to noise.
-fn change(file: &mut [u8], byte: usize, random: &mut Random) {
+/// The file with a byte of its header changed.
+pub fn with_changed_header(file: &[u8], random: &mut Random) -> Vec<u8> {
+    let byte = random.below(HEADER_BYTES as u64) as usize;
+    changed(file, byte, random)
+}
+
+/// The file with a byte of a chained record changed, if there is one.
+pub fn with_changed_record(file: &[u8], random: &mut Random) -> Vec<u8> {
+    match chained_byte(file, random) {
+        Some(byte) => changed(file, byte, random),
+        None => file.to_vec(),
+    }
+}
+
+/// One byte set to a neighbour of its value, to an end of its range, or to noise.
+fn changed(file: &[u8], byte: usize, random: &mut Random) -> Vec<u8> {
     let choice = random.below(CHANGES as u64) as usize;
     let noise = random.draw() as u8;
-    if let Some(value) = file.get_mut(byte) {
+    let mut changed = file.to_vec();
+    if let Some(value) = changed.get_mut(byte) {
         *value = changes(*value, noise)[choice];
     }
+    changed
 }
 
 const CHANGES: usize = 11;

@@ -12,11 +12,13 @@ pub mod words;
 
 use crate::{examples, settled};
 pub use chains::{broken, every_chain, with_relinked_spares};
-pub use damage::{causes, damaged, every_damage};
+pub use damage::{
+    causes, damaged, every_damage, one_sided, with_changed_header, with_changed_record,
+};
 pub use draft::Draft;
 use draft::{LINEAR, OVERLAP, SQUARE};
 pub use random::Random;
-pub use sound::{small, small_with_kernel, sound, sound_with_kernel, tiny};
+pub use sound::{among, small, small_with_kernel, sound, sound_with_kernel, tiny};
 
 /// A file of any kind: most are accepted, some of them mirrored; some are
 /// damaged, a tenth in the chain; a few are noise.
@@ -40,7 +42,8 @@ pub fn any_file(random: &mut Random) -> Vec<u8> {
     }
 }
 
-fn with(file: &[u8], start: usize, bytes: &[u8]) -> Vec<u8> {
+/// The file with these bytes put there.
+pub fn with(file: &[u8], start: usize, bytes: &[u8]) -> Vec<u8> {
     let mut changed = file.to_vec();
     changed[start..start + bytes.len()].copy_from_slice(bytes);
     changed

@@ -118,8 +118,14 @@ pub fn small_with_kernel(random: &mut Random, items: usize, kernel: u8) -> Vec<u
         .items
         .iter_mut()
         .for_each(|(_, features)| features.truncate(8));
-    let places = shuffled_places(random, items, items + 2);
-    tamed(draft.stored(&places, spare_records(random, items + 2)))
+    tamed(shuffled(&draft, random, items + 2))
+}
+
+/// A file of so many items among so many records: accepted, if there are two.
+pub fn among(random: &mut Random, items: usize, records: usize) -> Vec<u8> {
+    let mut draft = draft(random, items.max(2));
+    draft.items.truncate(items);
+    shuffled(&draft, random, records)
 }
 
 /// An accepted file so small that every feasible list of multipliers can be
@@ -405,16 +411,15 @@ fn laid_out(draft: &Draft, random: &mut Random) -> Vec<u8> {
         4 | 5 => random.between(0, left),
         _ => random.between(0, left.min(6)),
     };
-    let records = items + spares as usize;
-    let places = shuffled_places(random, items, records);
-    draft.stored(&places, spare_records(random, records))
+    shuffled(draft, random, items + spares as usize)
 }
 
-fn shuffled_places(random: &mut Random, items: usize, records: usize) -> Vec<usize> {
+/// The draft in bytes, its items in any of so many records.
+fn shuffled(draft: &Draft, random: &mut Random, records: usize) -> Vec<u8> {
     let mut places: Vec<usize> = (1..=records).collect();
     random.shuffle(&mut places);
-    places.truncate(items);
-    places
+    places.truncate(draft.items.len());
+    draft.stored(&places, spare_records(random, records))
 }
 
 /// What spare records hold: noise, zeros, or the look of an item, so that a

@@ -1,11 +1,9 @@
-//! Writes the vectors: `vectors FOLDER` makes `files.bin`, `listings.txt` and the
-//! files one by one in that folder, always the same, and prints how many files have each answer.
-//!
-//! `files.bin` holds, for each file, its length as two bytes, little endian, and
-//! then its bytes. `listings.txt` holds, for each file, the line `file K`, K
-//! from 1, and then what the training program prints for it. `K.log` is the file
-//! alone. The last file takes 70,880 steps; all others together take fewer than 2,000.
+//! The streams of `vectors_test`. Its input has, for each file, its length in two
+//! bytes, least first, and its bytes; its output the line `file K`, K from 1, and
+//! then what the training program prints for the file. The last file takes 70,880
+//! steps; all others together take fewer than 2,000.
 
+use crate::{two_bytes, Streams, SEED};
 use reference::examples::{
     ceilings_at_the_ends, full_chain, largest_overlap, largest_totals, long_run, run_only,
     three_records,
@@ -19,9 +17,7 @@ use reference::generate::{
 use reference::kernel::Kernel;
 use reference::{file, listing, run, settled, Refusal, Run};
 use std::collections::BTreeMap;
-use std::path::Path;
 
-const SEED: u64 = 20_261_115;
 const SOUND: usize = 213;
 const LARGEST: usize = 12;
 const DAMAGED: usize = 70;
@@ -32,24 +28,16 @@ const RELINKED_SPARES: usize = 10;
 /// Most causes of refusal 4 differ in the place alone; every so many is enough.
 const EACH_CAUSE_OF_4: usize = 6;
 
-fn main() -> std::io::Result<()> {
-    let folder = std::env::args().nth(1).unwrap_or_else(|| {
-        eprintln!("usage: vectors FOLDER");
-        std::process::exit(2)
-    });
-    let files = files();
+pub fn streams(files: &[Vec<u8>]) -> Streams {
     let listings: Vec<String> = files.iter().map(|file| listing(file)).collect();
-    let folder = Path::new(&folder);
-    std::fs::write(folder.join("files.bin"), packed(&files))?;
-    std::fs::write(folder.join("listings.txt"), numbered(&listings))?;
-    for (k, file) in files.iter().enumerate() {
-        std::fs::write(folder.join(format!("{}.log", k + 1)), file)?;
+    print_counts(files, &listings);
+    Streams {
+        stdin: packed(files),
+        stdout: numbered(&listings),
     }
-    print_counts(&files, &listings);
-    Ok(())
 }
 
-fn files() -> Vec<Vec<u8>> {
+pub fn files() -> Vec<Vec<u8>> {
     let random = &mut Random::new(SEED);
     let mut files = settled::files("P");
     files.push(three_records());
@@ -111,8 +99,7 @@ fn thinned(causes: Vec<(Refusal, Vec<u8>)>) -> Vec<Vec<u8>> {
 fn packed(files: &[Vec<u8>]) -> Vec<u8> {
     let mut bytes = Vec::new();
     for file in files {
-        let length = u16::try_from(file.len()).expect("a length fits two bytes");
-        bytes.extend(length.to_le_bytes());
+        bytes.extend(two_bytes(file.len()));
         bytes.extend(file);
     }
     bytes

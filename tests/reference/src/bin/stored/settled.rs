@@ -1,0 +1,43 @@
+//! The streams of `settled_test`: the table of settled examples.
+//!
+//! Its input has 113 bytes for each case, numbers with their lowest byte first:
+//! the length of its name in two bytes and 3 for the name; its kind in one; the
+//! length of its file in two and 92 for the file; three multipliers of four; a
+//! feature in one. Training is lent the three multipliers, certifying and
+//! classifying are given the first two, and the feature is the word to classify.
+
+use crate::{two_bytes, Streams};
+use reference::settled::{table, Call, Case};
+
+const NAME: usize = 3;
+const FILE: usize = 92;
+
+pub fn streams() -> Streams {
+    let cases = table();
+    let line = |case: &Case| format!("{} {}\n", case.name, case.result);
+    Streams {
+        stdin: cases.iter().flat_map(entry).collect(),
+        stdout: cases.iter().map(line).collect(),
+    }
+}
+
+fn entry(case: &Case) -> Vec<u8> {
+    let (kind, multipliers, word) = match case.call {
+        Call::Train => (0, [9, 9, 9], 0),
+        Call::Certify([first, second]) => (1, [first, second, 0], 0),
+        Call::Classify([first, second], word) => (2, [first, second, 0], word),
+    };
+    let mut entry = padded(case.name.as_bytes(), NAME);
+    entry.push(kind);
+    entry.extend(padded(&case.file, FILE));
+    entry.extend(multipliers.iter().flat_map(|a: &u32| a.to_le_bytes()));
+    entry.push(word as u8);
+    entry
+}
+
+/// The length of a part, then its bytes and zeros.
+fn padded(part: &[u8], places: usize) -> Vec<u8> {
+    assert!(part.len() <= places, "a part is too long");
+    let zeros = vec![0; places - part.len()];
+    [&two_bytes(part.len()), part, &zeros].concat()
+}
