@@ -1,10 +1,11 @@
 //! The calls made for one file, each answered by the library and the reference.
 
 use crate::answer::ACCEPTED;
-use crate::expected::{self, UNDECIDED};
+use crate::expected;
 use crate::library::{self, CertifyAnswer, ClassifyAnswer, ReadAnswer, TrainAnswer};
 use crate::report::{Difference, Tally};
-use reference::file::{read, Problem, MOST_RECORDS};
+use reference::cases::Drawn;
+use reference::file::{Problem, MOST_RECORDS};
 use reference::generate::{multipliers, words, Random};
 use std::fmt::{Arguments, Debug};
 
@@ -12,21 +13,21 @@ use std::fmt::{Arguments, Debug};
 /// so its draws change none of those of the other calls, and a difference noted
 /// with its seed and file number is met there again.
 pub fn compare(file: &[u8], random: &mut Random, tally: &mut Tally) -> Result<(), Box<Difference>> {
-    let problem = read(file).ok();
-    let trained = compare_train(file, problem.as_ref(), random, tally)?;
+    let mut drawn = Drawn::of(file.to_vec());
+    let trained = compare_train(file, drawn.problem(), random, tally)?;
     for _ in 0..2 {
-        let multipliers = multipliers::handed_in(problem.as_ref(), &trained, random);
+        let multipliers = multipliers::handed_in(drawn.problem(), &trained, random);
         compare_certify(file, &multipliers, random, tally)?;
+        drawn.certify(multipliers);
     }
-    let mut undecided = false;
     for _ in 0..3 {
-        let multipliers = multipliers::handed_in(problem.as_ref(), &trained, random);
-        let word = words::handed_in(problem.as_ref(), &multipliers, random);
-        let answer = compare_classify(file, &multipliers, &word, random, tally)?;
-        undecided |= answer.returned == ACCEPTED && answer.class == UNDECIDED;
+        let multipliers = multipliers::handed_in(drawn.problem(), &trained, random);
+        let word = words::handed_in(drawn.problem(), &multipliers, random);
+        compare_classify(file, &multipliers, &word, random, tally)?;
+        drawn.classify(multipliers, word);
     }
-    tally.count_file(undecided);
-    compare_read(file, problem.as_ref(), random, tally)
+    tally.cases.count(&drawn);
+    compare_read(file, drawn.problem(), random, tally)
 }
 
 /// The answer that both gave, or the difference.
@@ -176,7 +177,7 @@ fn compare_classify(
     word: &[i8],
     random: &mut Random,
     tally: &mut Tally,
-) -> Result<ClassifyAnswer, Box<Difference>> {
+) -> Result<(), Box<Difference>> {
     let before = ClassifyAnswer {
         returned: ACCEPTED,
         class: random.draw() as u8,
@@ -192,4 +193,5 @@ fn compare_classify(
         expected,
         answered,
     )
+    .map(drop)
 }

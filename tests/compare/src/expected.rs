@@ -24,14 +24,12 @@ fn ending_number(ending: Ending) -> u8 {
     }
 }
 
-pub const UNDECIDED: u8 = 3;
-
 /// "class: 1 looked up, 2 passed over, 3 undecided" of the C interface.
 fn class_number(class: Class) -> u8 {
     match class {
         Class::LookedUp => 1,
         Class::PassedOver => 2,
-        Class::Undecided => UNDECIDED,
+        Class::Undecided => 3,
     }
 }
 

@@ -15,7 +15,8 @@ pub struct Flags {
 
 const USE: &str = "use --seed N and one of --files N, --soak SECONDS, --only FILE";
 const DEFAULT_SEED: u64 = 1;
-const DEFAULT_FILES: u64 = 20_000;
+/// As many files as the gate compares: so many show every case.
+pub const DEFAULT_FILES: u64 = 20_000;
 
 impl Flags {
     /// A run of so many files has a fixed seed unless one is given, so that a

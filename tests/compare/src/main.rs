@@ -2,7 +2,8 @@
 //!
 //! `compare [--seed N] [--files N | --soak SECONDS | --only FILE]`: so many
 //! files, or files until the time is over, or one file by its number. The exit
-//! status is 1 if a difference was found.
+//! status is 1 if a difference was found, and 3 if there was none but a case was
+//! not met in as many files as the gate compares.
 
 mod answer;
 mod calls;
@@ -12,7 +13,7 @@ mod library;
 mod report;
 mod watch;
 
-use flags::{Flags, Until};
+use flags::{Flags, Until, DEFAULT_FILES};
 use reference::generate::{any_file, systematic, Random};
 use report::{hex, Tally};
 use std::process::ExitCode;
@@ -33,16 +34,25 @@ fn main() -> ExitCode {
     println!("seed {}", flags.seed);
     watch::start(flags.seed);
     let comparison = Comparison::new(flags);
-    let differences = comparison.on_all_cores();
+    let (tally, differences) = comparison.on_all_cores();
+    tally.print();
     let files = comparison.finished.load(Ordering::SeqCst);
+    let missing = if files < DEFAULT_FILES {
+        Vec::new()
+    } else {
+        tally.missing()
+    };
+    for case in &missing {
+        println!("not met: {case}");
+    }
     println!(
         "compared {files} files, {differences} differences (seed {})",
         comparison.flags.seed
     );
-    if differences == 0 {
-        ExitCode::SUCCESS
-    } else {
-        ExitCode::FAILURE
+    match (differences, missing.len()) {
+        (0, 0) => ExitCode::SUCCESS,
+        (0, _) => ExitCode::from(3),
+        _ => ExitCode::FAILURE,
     }
 }
 
@@ -75,8 +85,8 @@ impl Comparison {
         }
     }
 
-    /// The number of threads that found a difference.
-    fn on_all_cores(&self) -> usize {
+    /// What all threads counted, and how many of them found a difference.
+    fn on_all_cores(&self) -> (Tally, usize) {
         let cores = std::thread::available_parallelism()
             .map_or(1, usize::from)
             .min(watch::MOST_THREADS);
@@ -93,8 +103,8 @@ impl Comparison {
         });
         let mut tally = Tally::default();
         results.iter().for_each(|(part, _)| tally.add(part));
-        tally.print();
-        results.iter().filter(|(_, found)| *found).count()
+        let found = results.iter().filter(|(_, found)| *found).count();
+        (tally, found)
     }
 
     /// Waits for the threads, but not for a call that does not come back.

@@ -1,6 +1,7 @@
 //! What is printed: a difference with all that is needed to see it again, and
-//! how often each answer was met.
+//! how often each answer and each case was met.
 
+use reference::cases::Counts;
 use std::collections::BTreeMap;
 use std::fmt::{Arguments, Debug};
 
@@ -33,13 +34,44 @@ pub fn hex(bytes: &[u8]) -> String {
     bytes.iter().map(|byte| format!("{byte:02x}")).collect()
 }
 
+/// A call, with all that the reference can answer.
+struct Call {
+    name: &'static str,
+    /// Kernels, endings or classes, by their numbers in the C interface.
+    answers: &'static [(u8, &'static str)],
+    /// In the order of the tests.
+    refusals: &'static [u8],
+}
+
+const CALLS: [Call; 4] = [
+    Call {
+        name: "read",
+        answers: &[(0, "linear"), (1, "square"), (2, "overlap")],
+        refusals: &[1, 2, 3, 16, 4, 5],
+    },
+    Call {
+        name: "train",
+        answers: &[(1, "converged"), (2, "stuck"), (3, "spent")],
+        refusals: &[1, 2, 3, 16, 4, 5, 6],
+    },
+    Call {
+        name: "certify",
+        answers: &[(0, "answered")],
+        refusals: &[1, 2, 3, 16, 4, 5, 6, 7, 8],
+    },
+    Call {
+        name: "classify",
+        answers: &[(1, "looked up"), (2, "passed over"), (3, "undecided")],
+        refusals: &[1, 2, 3, 16, 4, 5, 6, 7, 8, 9],
+    },
+];
+
 /// How often the reference gave each answer: by call, then by refusal, and by
-/// kernel, ending or class where there is none. And in how many files a word lay
-/// exactly on the line.
+/// kernel, ending or class where there is none. And how often each case was met.
 #[derive(Default)]
 pub struct Tally {
     counts: BTreeMap<(&'static str, u8, u8), u64>,
-    files_with_undecided: u64,
+    pub cases: Counts,
 }
 
 impl Tally {
@@ -48,44 +80,49 @@ impl Tally {
         *self.counts.entry((call, refusal, answer)).or_default() += 1;
     }
 
-    pub fn count_file(&mut self, undecided: bool) {
-        self.files_with_undecided += u64::from(undecided);
-    }
-
     pub fn add(&mut self, other: &Tally) {
-        self.files_with_undecided += other.files_with_undecided;
+        self.cases.add(&other.cases);
         for (&key, count) in &other.counts {
             *self.counts.entry(key).or_default() += count;
         }
     }
 
-    pub fn print(&self) {
-        for call in ["read", "train", "certify", "classify"] {
-            let of_call = self.counts.iter().filter(|(key, _)| key.0 == call);
-            let parts: Vec<String> = of_call
-                .map(|(key, count)| format!("{} {count}", answer_name(*key)))
-                .collect();
-            println!("{call}: {}", parts.join(", "));
-        }
-        println!(
-            "files with an undecided word: {}",
-            self.files_with_undecided
-        );
+    /// Every answer that a call can give, with its count.
+    fn answers(&self, call: &Call) -> Vec<(String, u64)> {
+        let count = |refusal, answer| {
+            let count = self.counts.get(&(call.name, refusal, answer));
+            count.copied().unwrap_or(0)
+        };
+        let answers = call.answers.iter();
+        let answers = answers.map(|&(answer, name)| (name.to_string(), count(0, answer)));
+        let refusals = call.refusals.iter();
+        let refusals = refusals.map(|&number| (format!("refused {number}"), count(number, 0)));
+        answers.chain(refusals).collect()
     }
-}
 
-fn answer_name((call, refusal, answer): (&str, u8, u8)) -> String {
-    match (call, refusal, answer) {
-        ("read", 0, 0) => "linear".into(),
-        ("read", 0, 1) => "square".into(),
-        ("read", 0, _) => "overlap".into(),
-        ("train", 0, 1) => "converged".into(),
-        ("train", 0, 2) => "stuck".into(),
-        ("train", 0, _) => "spent".into(),
-        ("classify", 0, 1) => "looked up".into(),
-        ("classify", 0, 2) => "passed over".into(),
-        ("classify", 0, _) => "undecided".into(),
-        (_, 0, _) => "answered".into(),
-        (_, number, _) => format!("refused {number}"),
+    pub fn print(&self) {
+        for call in &CALLS {
+            let mut answers = self.answers(call);
+            answers.retain(|&(_, count)| count > 0);
+            let parts: Vec<String> = answers
+                .iter()
+                .map(|(name, count)| format!("{name} {count}"))
+                .collect();
+            println!("{:<9} {}", call.name, parts.join(", "));
+        }
+        for line in self.cases.lines() {
+            println!("{line}");
+        }
+    }
+
+    /// The answers and the cases that were not met.
+    pub fn missing(&self) -> Vec<String> {
+        let mut missing = self.cases.missing();
+        for call in &CALLS {
+            let answers = self.answers(call).into_iter();
+            let unmet = answers.filter(|&(_, count)| count == 0);
+            missing.extend(unmet.map(|(name, _)| format!("{}: {name}", call.name)));
+        }
+        missing
     }
 }

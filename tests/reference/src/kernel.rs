@@ -37,6 +37,11 @@ impl Kernel {
             Kernel::Overlap => sum(left, right, |l, r| (l + RAISE).min(r + RAISE)),
         }
     }
+
+    /// η of two lists of features.
+    pub fn eta(self, x: &[i8], z: &[i8]) -> i128 {
+        self.value(x, x) + self.value(z, z) - 2 * self.value(x, z)
+    }
 }
 
 fn products(left: &[i8], right: &[i8]) -> i128 {

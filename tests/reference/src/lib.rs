@@ -7,6 +7,7 @@
 //! are held in 128 bits, so that no width has to be argued for.
 
 mod amount;
+pub mod cases;
 mod certify;
 mod classify;
 mod contents;

@@ -7,8 +7,7 @@ mod overlap;
 mod samples;
 mod settled;
 
-use crate::certify::thresholds_of;
-use crate::classify::score;
+use crate::cases::{Drawn, GROUPS};
 use crate::examples::*;
 use crate::file::{read, MOST_RECORDS};
 use crate::generate::draft::{any_feature, Draft, LOOKED_UP, PASSED_OVER};
@@ -27,55 +26,38 @@ fn trained(draft: &Draft) -> (Trained, Vec<u32>, Vec<i64>) {
     (result, multipliers, gradient)
 }
 
-/// A case, and whether what was drawn for a file shows it.
-type Case<Drawn> = (&'static str, fn(&Drawn) -> bool);
-
-/// A comparison that hardly meets a case shows little of it: each is one file in
-/// two hundred.
-fn assert_frequent<Drawn>(cases: &[Case<Drawn>], numbered: impl Fn(u64) -> Option<Drawn>) {
-    const FILES: u64 = 2_000;
-    let drawn: Vec<Drawn> = (0..FILES).filter_map(numbered).collect();
-    for (case, shows) in cases {
-        let count = drawn.iter().filter(|drawn| shows(drawn)).count() as u64;
-        assert!(200 * count >= FILES, "{case}: {count} of {FILES}");
-    }
+/// A random file, with a list and a word as a caller hands them in.
+fn drawn(number: u64) -> Drawn {
+    let random = &mut Random::numbered(1, number);
+    let mut drawn = Drawn::of(any_file(random));
+    let multipliers = multipliers::handed_in(drawn.problem(), &drawn.trained(), random);
+    let word = words::handed_in(drawn.problem(), &multipliers, random);
+    drawn.certify(multipliers.clone());
+    drawn.classify(multipliers, word);
+    drawn
 }
 
-/// Whether a word is on a line that decides one of the file's own items. Where
-/// it decides none, as with multipliers of 0 or with items all alike, every word
-/// is undecided, and that shows little.
-fn on_a_line(file: &[u8], multipliers: &[u32], word: &[i8]) -> bool {
-    if classify(file, multipliers, word) != Ok(Class::Undecided) {
-        return false;
+/// A comparison that hardly meets a case shows little of it.
+#[test]
+fn every_frequent_case_is_one_file_in_two_hundred() {
+    const FILES: u64 = 2_000;
+    let drawn: Vec<Drawn> = (0..FILES).map(drawn).collect();
+    for group in GROUPS.iter().filter(|group| group.frequent) {
+        for (name, shows) in group.cases {
+            let count: usize = drawn.iter().map(|drawn| shows.count(drawn)).sum();
+            let often = 200 * count as u64 >= FILES;
+            assert!(often, "{}: {name}: {count} of {FILES}", group.name);
+        }
     }
-    let problem = read(file).expect("it was classified");
-    let both = thresholds_of(&problem, multipliers);
-    let decided = |features: &[i8]| score(&problem, multipliers, both, features) != 0;
-    problem.items.iter().any(|item| decided(&item.features))
 }
 
 /// A comparison that hardly meets a score of exactly 0 shows little.
 #[test]
 fn one_word_in_fifty_is_on_a_line() {
     const WORDS: u64 = 1_000;
-    let drawn_on_a_line = |&number: &u64| {
-        let random = &mut Random::numbered(1, number);
-        let file = any_file(random);
-        let problem = read(&file).ok();
-        let n = problem.as_ref().map_or(0, |problem| problem.items.len());
-        let mut trained = vec![0; n];
-        let _ = train(&file, &mut trained, &mut vec![0; n]);
-        let multipliers = multipliers::handed_in(problem.as_ref(), &trained, random);
-        let word = words::handed_in(problem.as_ref(), &multipliers, random);
-        on_a_line(&file, &multipliers, &word)
-    };
-    let counted = (0..WORDS).filter(drawn_on_a_line).count() as u64;
+    let on_a_line = |drawn: &Drawn| drawn.words[0].on_a_line;
+    let counted = (0..WORDS).map(drawn).filter(on_a_line).count() as u64;
     assert!(50 * counted >= WORDS, "{counted} of {WORDS}");
-}
-
-/// η of two lists of features.
-fn eta(kernel: Kernel, x: &[i8], z: &[i8]) -> i128 {
-    kernel.value(x, x) + kernel.value(z, z) - 2 * kernel.value(x, z)
 }
 
 /// A mirror is its own inverse, keeps η of any two with every kernel, and gives
@@ -90,8 +72,8 @@ fn mirrors_reflect() {
             let (x, z) = (draw(), draw());
             assert_eq!(mirror.image(&mirror.image(&x)), x);
             for kernel in Kernel::ALL {
-                let images = eta(kernel, &mirror.image(&x), &mirror.image(&z));
-                assert_eq!(images, eta(kernel, &x, &z));
+                let images = kernel.eta(&mirror.image(&x), &mirror.image(&z));
+                assert_eq!(images, kernel.eta(&x, &z));
             }
             let own = mirror.own_image(&x);
             assert_eq!(mirror.image(&own), own);

@@ -46,6 +46,11 @@ pub fn records(file: &[u8]) -> usize {
     number(file, 0, 2) as usize
 }
 
+/// The next number of a record.
+pub fn next_of(file: &[u8], record: usize) -> usize {
+    number(file, record_start(record), 2) as usize
+}
+
 /// The records that a walk meets before anything is wrong with it.
 pub fn chain(file: &[u8]) -> Vec<usize> {
     let mut met = Vec::new();
@@ -56,7 +61,7 @@ pub fn chain(file: &[u8]) -> Vec<usize> {
     let mut next = number(file, FIRST_RECORD, 2) as usize;
     while next != 0 && next <= stored && !met.contains(&next) {
         met.push(next);
-        next = number(file, record_start(next), 2) as usize;
+        next = next_of(file, next);
     }
     met
 }

@@ -1,14 +1,13 @@
-//! Document 02, request (k): chains that break, the record that both faults
-//! carry, and how often each case is drawn.
+//! Document 02, request (k): chains that break, and the record that both faults
+//! carry.
 
-use super::{assert_frequent, Case};
 use crate::examples::{by_turns, full_chain, three_records};
-use crate::file::{number, read, record_start, MOST_RECORDS};
+use crate::file::{read, MOST_RECORDS};
 use crate::generate::chains::{
-    chain, records, with_first, with_header_faults, with_label, with_next, HIGHEST_NEXT,
+    chain, next_of, records, with_first, with_header_faults, with_label, with_next,
 };
 use crate::generate::draft::{Draft, LOOKED_UP};
-use crate::generate::{any_file, every_chain, Random};
+use crate::generate::every_chain;
 use crate::settled::p1;
 use crate::{certify, classify, contents, listing, train, Refusal};
 
@@ -142,10 +141,6 @@ fn every_call_carries_the_record() {
     }
 }
 
-fn next_of(file: &[u8], record: usize) -> usize {
-    number(file, record_start(record), 2) as usize
-}
-
 /// Whether the chain is whole and meets the same records once it ends at this one.
 fn mended_at(file: &[u8], record: usize) -> bool {
     let ended = with_next(file, record, 0);
@@ -171,121 +166,4 @@ fn every_small_chain_breaks_at_the_record_named() {
         broken += 1;
     }
     assert_eq!(broken, 288);
-}
-
-/// A walk along the chain of a file that is accepted or refused for its chain.
-struct Walk {
-    file: Vec<u8>,
-    m: usize,
-    /// 3 or 16, or 0 where the file is accepted.
-    refused: u8,
-    /// The records met; where the chain breaks, the last of them is at fault.
-    met: Vec<usize>,
-}
-
-impl Walk {
-    fn numbered(number: u64) -> Option<Walk> {
-        let file = any_file(&mut Random::numbered(1, number));
-        let refused = match read(&file) {
-            Ok(_) => 0,
-            Err(refusal) if refusal.record.is_some() => refusal.number,
-            Err(_) => return None,
-        };
-        let (m, met) = (records(&file), chain(&file));
-        Some(Walk {
-            file,
-            m,
-            refused,
-            met,
-        })
-    }
-
-    fn last(&self) -> usize {
-        self.met[self.met.len() - 1]
-    }
-
-    fn last_next(&self) -> usize {
-        next_of(&self.file, self.last())
-    }
-
-    /// How many records are in the cycle that refusal 16 names, 0 without one.
-    fn cycle(&self) -> usize {
-        let entry = self.met.iter().position(|&met| met == self.last_next());
-        entry.map_or(0, |place| self.met.len() - place)
-    }
-
-    /// Whether the file is accepted and a spare record and its next number are
-    /// of the kind asked for.
-    fn spare(&self, kind: impl Fn(usize, usize) -> bool) -> bool {
-        let spares = (1..=self.m).filter(|record| !self.met.contains(record));
-        let mut kinds = spares.map(|record| kind(record, next_of(&self.file, record)));
-        self.refused == 0 && kinds.any(|found| found)
-    }
-
-    /// Whether a record leads through others back to itself.
-    fn comes_back(&self, record: usize) -> bool {
-        let met = chain(&with_first(&self.file, record));
-        met.len() > 1 && next_of(&self.file, met[met.len() - 1]) == record
-    }
-}
-
-/// What of request (k) a file can show.
-const CASES: [Case<Walk>; 16] = [
-    ("3, next m + 1", |walk| {
-        walk.refused == 3 && walk.last_next() == walk.m + 1
-    }),
-    ("3, next 65,535", |walk| {
-        walk.refused == 3 && walk.last_next() == HIGHEST_NEXT
-    }),
-    ("3 at the first record", |walk| {
-        walk.refused == 3 && walk.met.len() == 1
-    }),
-    ("3 at a later record", |walk| {
-        walk.refused == 3 && walk.met.len() > 1
-    }),
-    ("16, the first record its own next", |walk| {
-        walk.refused == 16 && walk.met.len() == 1
-    }),
-    ("16, a later record its own next", |walk| {
-        walk.met.len() > 1 && walk.cycle() == 1
-    }),
-    ("16, back to the first record", |walk| {
-        walk.met.len() > 1 && walk.cycle() == walk.met.len()
-    }),
-    ("16, a tail into a cycle", |walk| {
-        (2..walk.met.len()).contains(&walk.cycle())
-    }),
-    ("3 or 16 at the last of all m records", |walk| {
-        walk.refused > 0 && walk.met.len() == walk.m
-    }),
-    ("3 or 16, where 4 or 5 would follow", |walk| {
-        walk.refused > 0 && read(&with_next(&walk.file, walk.last(), 0)).is_err()
-    }),
-    ("3 or 16, with another fault stored before", |walk| {
-        let at_fault = |record: usize| {
-            let next = next_of(&walk.file, record);
-            next > walk.m || next == record
-        };
-        walk.refused > 0 && (1..walk.last()).any(at_fault)
-    }),
-    ("accepted, a next number of exactly m", |walk| {
-        walk.refused == 0 && walk.met[1..].contains(&walk.m)
-    }),
-    ("accepted, a spare record leads over m", |walk| {
-        walk.spare(|_, next| next > walk.m)
-    }),
-    ("accepted, a spare record is its own next", |walk| {
-        walk.spare(|record, next| next == record)
-    }),
-    ("accepted, spare records in a cycle", |walk| {
-        walk.spare(|record, _| walk.comes_back(record))
-    }),
-    ("accepted, a spare record leads into the chain", |walk| {
-        walk.spare(|_, next| walk.met.contains(&next))
-    }),
-];
-
-#[test]
-fn every_case_of_a_chain_is_one_file_in_two_hundred() {
-    assert_frequent(&CASES, Walk::numbered);
 }

@@ -1,14 +1,15 @@
 //! Writes what the three test programs are run on and what they have to print:
 //! `stored FOLDER` makes `reading_test`, `settled_test` and `vectors_test` in that
 //! folder, each with `stdin` and `stdout`, always the same, and in `files` those
-//! of `vectors_test` one by one, K.log for the one of number K. It prints how many
-//! of these show what.
+//! of `vectors_test` one by one, K.log for the one of number K. It prints how often
+//! each answer is among them, and what the last ones show.
 
 mod edges;
 mod reading;
 mod settled;
 mod vectors;
 
+use std::collections::BTreeMap;
 use std::io;
 use std::path::Path;
 
@@ -54,4 +55,17 @@ fn one_by_one(files: &[Vec<u8>], folder: &Path) -> io::Result<()> {
 fn two_bytes(length: usize) -> [u8; 2] {
     let length = u16::try_from(length).expect("a length fits two bytes");
     length.to_le_bytes()
+}
+
+/// Each text with how often it is there, short ones first.
+fn counted(texts: impl Iterator<Item = String>) -> String {
+    let mut counts = BTreeMap::new();
+    for text in texts {
+        *counts.entry((text.len(), text)).or_insert(0) += 1;
+    }
+    let parts: Vec<String> = counts
+        .iter()
+        .map(|((_, text), count)| format!("{text} {count}"))
+        .collect();
+    parts.join(", ")
 }

@@ -6,7 +6,7 @@
 //! lent; its length in two bytes, and its bytes.
 
 use crate::edges::{edges, Edge};
-use crate::{two_bytes, Streams, SEED};
+use crate::{counted, two_bytes, Streams, SEED};
 use reference::contents;
 use reference::file::read;
 use reference::generate::{
@@ -21,6 +21,8 @@ const DRAWN: u64 = 27 * KINDS;
 pub fn streams() -> Streams {
     let mut cases = edges();
     cases.extend((0..DRAWN).map(drawn));
+    let answers = counted(cases.iter().map(|(_, file, _)| answer(file)));
+    println!("reading_test: {} files: {answers}", cases.len());
     Streams {
         stdin: cases.iter().flat_map(entry).collect(),
         stdout: cases.iter().map(line).collect(),
@@ -56,10 +58,18 @@ fn table_length(file: &[u8], random: &mut Random) -> usize {
     random.pick(&[n, n, n + 1, n - 1, 0])
 }
 
+/// Accepted, or the refusal's number.
+fn answer(file: &[u8]) -> String {
+    match read(file) {
+        Ok(_) => "accepted".into(),
+        Err(refusal) => format!("refused {}", refusal.number),
+    }
+}
+
 fn entry((name, file, places): &Edge) -> Vec<u8> {
     let length = u8::try_from(name.len()).expect("a name's length fits a byte");
     let sizes = [two_bytes(*places), two_bytes(file.len())].concat();
-    [&[length], name.as_bytes(), &sizes, file].concat()
+    [&[length][..], name.as_bytes(), &sizes, file].concat()
 }
 
 /// The answer, and what the table then holds: 9s, but for the record numbers that

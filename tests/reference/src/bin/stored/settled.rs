@@ -14,6 +14,7 @@ const FILE: usize = 92;
 
 pub fn streams() -> Streams {
     let cases = table();
+    println!("settled_test: {} cases", cases.len());
     let line = |case: &Case| format!("{} {}\n", case.name, case.result);
     Streams {
         stdin: cases.iter().flat_map(entry).collect(),
@@ -39,5 +40,5 @@ fn entry(case: &Case) -> Vec<u8> {
 fn padded(part: &[u8], places: usize) -> Vec<u8> {
     assert!(part.len() <= places, "a part is too long");
     let zeros = vec![0; places - part.len()];
-    [&two_bytes(part.len()), part, &zeros].concat()
+    [&two_bytes(part.len())[..], part, &zeros].concat()
 }

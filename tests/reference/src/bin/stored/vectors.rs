@@ -3,7 +3,8 @@
 //! then what the training program prints for the file. The last file takes 70,880
 //! steps; all others together take fewer than 2,000.
 
-use crate::{two_bytes, Streams, SEED};
+use crate::{counted, two_bytes, Streams, SEED};
+use reference::cases::{Counts, Drawn};
 use reference::examples::{
     ceilings_at_the_ends, full_chain, largest_overlap, largest_totals, long_run, run_only,
     three_records,
@@ -14,9 +15,7 @@ use reference::generate::{
     broken, causes, damaged, every_chain, noise, small, sound, sound_with_kernel,
     with_relinked_spares, Random,
 };
-use reference::kernel::Kernel;
-use reference::{file, listing, run, settled, Refusal, Run};
-use std::collections::BTreeMap;
+use reference::{file, listing, settled, Refusal};
 
 const SOUND: usize = 213;
 const LARGEST: usize = 12;
@@ -113,17 +112,20 @@ fn numbered(listings: &[String]) -> String {
         .collect()
 }
 
+/// How many files have each answer and each kernel, in how many listings no
+/// multiplier is above 0, some are and all are, and how many files show each case.
 fn print_counts(files: &[Vec<u8>], listings: &[String]) {
-    let mut answers: BTreeMap<String, usize> = BTreeMap::new();
-    for listing in listings {
-        *answers.entry(answer(listing)).or_default() += 1;
-    }
-    println!("{} files, {} bytes", files.len(), packed(files).len());
-    for (answer, count) in answers {
-        println!("{answer}: {count}");
-    }
-    print_shapes(files);
-    print_totals(listings);
+    let answers = counted(listings.iter().map(|listing| answer(listing)));
+    println!("vectors_test: {} files: {answers}", files.len());
+    let drawn: Vec<Drawn> = files.iter().cloned().map(Drawn::of).collect();
+    let problems = drawn.iter().filter_map(Drawn::problem);
+    let kernels = problems.map(|problem| format!("{:?}", problem.parameters.kernel));
+    println!("kernels: {}", counted(kernels));
+    let above_zero = counted(listings.iter().filter_map(|listing| above_zero(listing)));
+    println!("multipliers above 0: {above_zero}");
+    let mut counts = Counts::default();
+    drawn.iter().for_each(|drawn| counts.count(drawn));
+    println!("{}", counts.lines().join("\n"));
 }
 
 /// The ending, or the refusal with its number.
@@ -132,88 +134,15 @@ fn answer(listing: &str) -> String {
     words[..if words[0] == "refused" { 2 } else { 1 }].join(" ")
 }
 
-/// In how many listings no multiplier is above 0, some are, and all are.
-fn print_totals(listings: &[String]) {
-    let (mut none, mut some, mut all) = (0, 0, 0);
-    for listing in listings {
-        let lines: Vec<&str> = listing.lines().collect();
-        let total = lines[lines.len() - 1].strip_prefix("total ");
-        match total.and_then(|numbers| numbers.split(' ').next()) {
-            None => {}
-            Some("0") => none += 1,
-            Some(above) if above == (lines.len() - 2).to_string() => all += 1,
-            Some(_) => some += 1,
-        }
-    }
-    println!("multipliers above 0: none {none}, some {some}, all {all}");
-}
-
-fn print_shapes(files: &[Vec<u8>]) {
-    let problems: Vec<file::Problem> = files
-        .iter()
-        .filter_map(|bytes| file::read(bytes).ok())
-        .collect();
-    let kernels = Kernel::ALL.map(|kernel| {
-        let of_kernel = problems
-            .iter()
-            .filter(|problem| problem.parameters.kernel == kernel);
-        of_kernel.count()
-    });
-    let largest = problems
-        .iter()
-        .filter(|problem| problem.items.len() == file::MOST_RECORDS)
-        .count();
-    let runs: Vec<_> = problems.iter().map(run).collect();
-    let steps: usize = runs.iter().map(|run| run.steps.len()).sum();
-    let fallback = runs
-        .iter()
-        .flat_map(|run| &run.steps)
-        .filter(|step| step.pair.fallback)
-        .count();
-    let [linear, square, overlap] = kernels;
-    println!("linear {linear}, square {square}, overlap {overlap}, n = 256 {largest}");
-    println!("steps {steps}, of fallback pairs {fallback}");
-    let most = problems
-        .iter()
-        .zip(&runs)
-        .map(|(problem, run)| run.steps.len() * problem.items.len().pow(2))
-        .max();
-    println!("most steps x n x n of one file: {}", most.unwrap_or(0));
-    print_ceilings(&problems, &runs);
-}
-
-/// How many accepted files give a second ceiling, and in how many training leaves
-/// a multiplier at its label's ceiling where the other label's is higher.
-fn print_ceilings(problems: &[file::Problem], runs: &[Run]) {
-    let seconds = |asked: &dyn Fn(i128, i128) -> bool| {
-        let parameters = problems.iter().map(|problem| &problem.parameters);
-        let given = parameters.filter(|given| asked(given.second_ceiling, given.ceiling));
-        given.count()
+/// Whether the multipliers above 0 are none, some or all, by the line of totals.
+fn above_zero(listing: &str) -> Option<String> {
+    let lines: Vec<&str> = listing.lines().collect();
+    let total = lines[lines.len() - 1].strip_prefix("total ")?;
+    let items = (lines.len() - 2).to_string();
+    let share = match total.split(' ').next()? {
+        "0" => "none",
+        above if above == items => "all",
+        _ => "some",
     };
-    println!(
-        "second ceiling: 0 {}, as c {}, below c {}, above c {}, 1 {}, 65,536 {}",
-        seconds(&|second, _| second == 0),
-        seconds(&|second, c| second == c),
-        seconds(&|second, c| (1..c).contains(&second)),
-        seconds(&|second, c| second > c),
-        seconds(&|second, _| second == 1),
-        seconds(&|second, _| second == i128::from(file::HIGHEST_CEILING))
-    );
-    let stopped = file::Label::BOTH.map(|label| {
-        let pairs = problems.iter().zip(runs);
-        let stops = pairs.filter(|(problem, run)| stopped(problem, run, label));
-        stops.count()
-    });
-    println!("stopped by the lower ceiling: looked up, passed over {stopped:?}");
-}
-
-fn stopped(problem: &file::Problem, run: &Run, label: file::Label) -> bool {
-    let own = problem.parameters.ceiling_of(label);
-    let mut items = problem.items.iter().zip(&run.multipliers);
-    problem
-        .parameters
-        .ceilings()
-        .iter()
-        .any(|&other| other > own)
-        && items.any(|(item, &a)| item.label == label && a == own)
+    Some(share.into())
 }

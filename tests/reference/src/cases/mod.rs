@@ -1,0 +1,183 @@
+//! What a comparison has to meet, and how often it did: cases that a file can
+//! show, a list of multipliers certified, or a word classified. The reference's
+//! tests, the comparison and the program `stored` all count by these tables.
+
+mod ceilings;
+mod chains;
+mod counts;
+mod header;
+mod overlap;
+mod undecided;
+
+use crate::certify::{judge_count, judge_feasible, thresholds_of};
+use crate::classify::{doubled_score, score};
+use crate::file::{read, Label, Problem};
+use crate::refusal::Refusal;
+use crate::training::{run, Run};
+use chains::Walk;
+pub use counts::Counts;
+
+/// Cases of one kind. Those of a frequent group are each met in one random file
+/// of two hundred, or the test of the generators fails.
+pub struct Group {
+    pub name: &'static str,
+    pub frequent: bool,
+    pub cases: &'static [Case],
+}
+
+pub const GROUPS: [Group; 6] = [
+    header::ENDS,
+    header::REFUSED,
+    chains::GROUP,
+    ceilings::GROUP,
+    overlap::GROUP,
+    undecided::GROUP,
+];
+
+/// A name, and what shows the case.
+pub type Case = (&'static str, Shows);
+
+pub enum Shows {
+    File(fn(&Drawn) -> bool),
+    /// A file that is accepted or refused with 3 or 16.
+    Chain(fn(&Walk) -> bool),
+    Accepted(fn(&Accepted) -> bool),
+    /// A list certified, of an accepted file.
+    List(fn(&Accepted, &List) -> bool),
+    /// A word classified, of an accepted file.
+    Word(fn(&Accepted, &Word) -> bool),
+}
+
+impl Shows {
+    /// How often a file, with all that is drawn for it, shows the case.
+    pub fn count(&self, drawn: &Drawn) -> usize {
+        let accepted = drawn.read.as_ref().ok();
+        match self {
+            Shows::File(shows) => shows(drawn).into(),
+            Shows::Chain(shows) => Walk::of(drawn).map_or(false, |walk| shows(&walk)).into(),
+            Shows::Accepted(shows) => accepted.map_or(false, shows).into(),
+            Shows::List(shows) => accepted.map_or(0, |file| {
+                let lists = drawn.lists.iter();
+                lists.filter(|list| shows(file, list)).count()
+            }),
+            Shows::Word(shows) => accepted.map_or(0, |file| {
+                let words = drawn.words.iter();
+                words.filter(|word| shows(file, word)).count()
+            }),
+        }
+    }
+}
+
+/// A file, and what a caller hands in beside it.
+pub struct Drawn {
+    pub file: Vec<u8>,
+    pub read: Result<Accepted, Refusal>,
+    pub lists: Vec<List>,
+    pub words: Vec<Word>,
+}
+
+/// What an accepted file holds, and its training.
+pub struct Accepted {
+    pub problem: Problem,
+    pub run: Run,
+}
+
+/// A list of multipliers, and what refuses it, 0 where it is accepted.
+pub struct List {
+    pub multipliers: Vec<u32>,
+    pub refused: u8,
+}
+
+/// A word with the multipliers that it is classified by.
+pub struct Word {
+    pub features: Vec<i8>,
+    pub multipliers: Vec<u32>,
+    pub score: Result<i128, Refusal>,
+    /// Whether it is on a line that decides one of the file's own items. Where
+    /// the line decides none, as with multipliers of 0 or with items all alike,
+    /// every word is undecided, and that shows little.
+    pub on_a_line: bool,
+}
+
+impl Drawn {
+    pub fn of(file: Vec<u8>) -> Drawn {
+        let accepted = |problem: Problem| {
+            let run = run(&problem);
+            Accepted { problem, run }
+        };
+        Drawn {
+            read: read(&file).map(accepted),
+            file,
+            lists: Vec::new(),
+            words: Vec::new(),
+        }
+    }
+
+    pub fn problem(&self) -> Option<&Problem> {
+        self.read.as_ref().ok().map(|accepted| &accepted.problem)
+    }
+
+    /// The multipliers that training leaves, none where the file is refused.
+    pub fn trained(&self) -> Vec<u32> {
+        let left =
+            |accepted: &Accepted| accepted.run.multipliers.iter().map(|&a| a as u32).collect();
+        self.read.as_ref().map_or(Vec::new(), left)
+    }
+
+    /// Adds a list that is certified.
+    pub fn certify(&mut self, multipliers: Vec<u32>) {
+        let refused = self.problem().map_or(0, |problem| {
+            let counted = judge_count(problem, &multipliers);
+            let judged = counted.and_then(|()| judge_feasible(problem, &multipliers));
+            judged.err().unwrap_or(0)
+        });
+        self.lists.push(List {
+            multipliers,
+            refused,
+        });
+    }
+
+    /// Adds a word that is classified.
+    pub fn classify(&mut self, multipliers: Vec<u32>, features: Vec<i8>) {
+        let score = doubled_score(&self.file, &multipliers, &features);
+        let decides = |problem| line_decides(problem, &multipliers);
+        let on_a_line = score == Ok(0) && self.problem().map_or(false, decides);
+        self.words.push(Word {
+            features,
+            multipliers,
+            score,
+            on_a_line,
+        });
+    }
+}
+
+/// Whether the line of feasible multipliers decides an item.
+fn line_decides(problem: &Problem, multipliers: &[u32]) -> bool {
+    let both = thresholds_of(problem, multipliers);
+    let mut items = problem.items.iter();
+    items.any(|item| score(problem, multipliers, both, &item.features) != 0)
+}
+
+impl Accepted {
+    fn has_feature(&self, feature: i8) -> bool {
+        let mut items = self.problem.items.iter();
+        items.any(|item| item.features.contains(&feature))
+    }
+
+    /// Whether some multiplier of a label is as asked for.
+    fn some(&self, multipliers: &[u32], label: Label, asked: impl Fn(i128) -> bool) -> bool {
+        let mut items = self.problem.items.iter().zip(multipliers);
+        items.any(|(item, &a)| item.label == label && asked(a.into()))
+    }
+}
+
+impl Word {
+    /// Whether it is classified, with such a score.
+    fn scored(&self, asked: impl Fn(i128) -> bool) -> bool {
+        self.score.map_or(false, asked)
+    }
+
+    fn is_classified_with(&self, feature: i8) -> bool {
+        self.score.is_ok() && self.features.contains(&feature)
+    }
+}
