@@ -63,7 +63,7 @@ pub const REFUSED: Group = Group {
         ),
         (
             "kernel 3 alone",
-            File(|drawn| kernel_over(drawn) && drawn.file[5] == 3 && alone(drawn, KERNEL)),
+            File(|drawn| kernel_over(drawn) && drawn.file[KERNEL.0] == 3 && alone(drawn, KERNEL)),
         ),
     ],
 };

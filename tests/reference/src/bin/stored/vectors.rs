@@ -119,7 +119,7 @@ fn print_counts(files: &[Vec<u8>], listings: &[String]) {
     println!("vectors_test: {} files: {answers}", files.len());
     let drawn: Vec<Drawn> = files.iter().cloned().map(Drawn::of).collect();
     let problems = drawn.iter().filter_map(Drawn::problem);
-    let kernels = problems.map(|problem| format!("{:?}", problem.parameters.kernel));
+    let kernels = problems.map(|problem| format!("{:?}", problem.parameters.kernel).to_lowercase());
     println!("kernels: {}", counted(kernels));
     let above_zero = counted(listings.iter().filter_map(|listing| above_zero(listing)));
     println!("multipliers above 0: {above_zero}");
