@@ -5,6 +5,7 @@ use Prim.Native.Nat.{ℕ}
 use Rattle.training_file.specs.declared.refusal.Refusal.{Refusal}
 use Rattle.training_file.specs.Refusal.{noRefusal}
 use Rattle.reading.specs.Reading.{Reading, refused, accepted, reading}
+use Rattle.reading.specs.Calls.{fileFirst}
 use Rattle.dual_problem.specs.Problem.{BoundedDistance, Problem, problem, at}
 use Rattle.thresholds.specs.Extremes.{thresholdsOf}
 use Rattle.certifying.specs.declared.certify.Certified.{Certified}
@@ -22,13 +23,9 @@ certifyJudged P a judged.Feasible = Found (thresholdsOf P (at a))
 abbrev pub certifyItems : Problem → List ℕ → Certified
 certifyItems P a = certifyJudged P a (judgement P a)
 
--- "The first refusal met ends the call": those of the file, then those of the multipliers
-abbrev pub certifyRead : Reading → List ℕ → Certified
-certifyRead (refused why) a = Refused why
-certifyRead (accepted p order items) a = certifyItems (problem p items) a
-
+-- any file and any multipliers: the refusals of the file, then those of the multipliers
 abbrev pub certifying : List ℕ → List ℕ → Certified
-certifying file a = certifyRead (reading file) a
+certifying file a = fileFirst Refused (λ p order items. certifyItems (problem p items) a) (reading file)
 
 -- the refusal that an answer is
 abbrev pub certifiedRefusal : Certified → Refusal

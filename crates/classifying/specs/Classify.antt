@@ -14,7 +14,8 @@ use Rattle.training_file.specs.declared.item.Item.{Item}
 use Rattle.training_file.specs.declared.refusal.Refusal.{Refusal}
 use Rattle.training_file.specs.Refusal.{noRefusal, refusal}
 use Rattle.training_file.specs.Item.{featureAllowed, itemIn}
-use Rattle.reading.specs.Reading.{Reading, refused, accepted, reading}
+use Rattle.reading.specs.Calls.{fileFirst}
+use Rattle.reading.specs.Reading.{reading}
 use Rattle.dual_problem.specs.Size.{gradientMost}
 use Rattle.dual_problem.specs.Kernel.{kernelBetween}
 use Rattle.dual_problem.specs.Problem.{problem, at}
@@ -69,13 +70,9 @@ abbrev pub classifyItems : Parameters → List Item → List ℕ → List ℤ �
 classifyItems p items a word =
     cond (eqb (length word) (p .used)) (classifyJudged p items a word (judgement (problem p items) a)) (Refused (refusal 6))
 
--- "The first refusal met ends the call": those of the file come before those of the caller
-abbrev pub classifyRead : Reading → List ℕ → List ℤ → Classified
-classifyRead (refused why) a word = Refused why
-classifyRead (accepted p order items) a word = classifyItems p items a word
-
+-- any file, any multipliers and any word: the refusals of the file come before those of the caller
 abbrev pub classifying : List ℕ → List ℕ → List ℤ → Classified
-classifying file a word = classifyRead (reading file) a word
+classifying file a word = fileFirst Refused (λ p order items. classifyItems p items a word) (reading file)
 
 -- the refusal that an answer is
 abbrev pub classifiedRefusal : Classified → Refusal

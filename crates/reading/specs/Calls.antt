@@ -36,12 +36,11 @@ abbrev pub itemsIn : Reading → List Item
 itemsIn (refused why) = []
 itemsIn (accepted parameters records items) = items
 
--- the file is read as these parameters, and n items
-pub record Read (file : List ℕ) (p : Parameters) (n : ℕ) : Type 0 where
-  pub order : List ℕ
-  pub items : List Item
-  pub is : reading file ≡ accepted p order items
-  pub counted : n ≡ length items
+-- "The first refusal met ends the call": what a call that reads its file first comes to, by what a refusal of the file gives, and by what
+-- the parameters, the record numbers and the items of an accepted one give
+abbrev pub fileFirst : {A : Type 0} → (Refusal → A) → (Parameters → List ℕ → List Item → A) → Reading → A
+fileFirst refusal call (refused why) = refusal why
+fileFirst refusal call (accepted parameters records items) = call parameters records items
 
 -- what fetching an item by its place relies on: the place is one of an accepted file, and the table has its record number
 pub record Tabled (file table : List ℕ) (place : ℕ) : Type 0 where

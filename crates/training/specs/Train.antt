@@ -10,9 +10,11 @@ use lib.IntN.{ℤ}
 use lib.ListN.{length, take}
 use Rattle.integers.specs.Written.{written}
 use Rattle.training_file.specs.declared.parameters.Parameters.{Parameters}
+use Rattle.training_file.specs.declared.item.Item.{Item}
 use Rattle.training_file.specs.declared.refusal.Refusal.{Refusal}
 use Rattle.training_file.specs.Refusal.{noRefusal, refusal}
 use Rattle.reading.specs.Reading.{Reading, refused, accepted, reading}
+use Rattle.reading.specs.Calls.{fileFirst}
 use Rattle.dual_problem.specs.Problem.{BoundedDistance, Problem, gradient, problem, at}
 use Rattle.dual_problem.specs.Items.{problemOf}
 use Rattle.working_pair.specs.Move.{NoMoveLowers}
@@ -43,17 +45,16 @@ endedWith P o a g =
       gradient = written (P .count) (gradient P (at (o .multipliers))) g;
     }
 
--- refusals 1 to 5 and 16 are the file's; "6: training, a lent list shorter than n"
-abbrev pub trainRead : Reading → List ℕ → List ℤ → TrainingLeft
-trainRead (refused why) a g = unchanged why a g
-trainRead (accepted p order items) a g =
+-- "6: training, a lent list shorter than n"
+abbrev pub trainItems : Parameters → List Item → List ℕ → List ℤ → TrainingLeft
+trainItems p items a g =
     cond (leb (length items) (length a) && leb (length items) (length g))
     (endedWith (problem p items) (training (problem p items) (p .tolerance) (p .budget)) a g)
     (unchanged (refusal 6) a g)
 
--- any file, with the lists as they are lent
+-- any file, with the lists as they are lent: refusals 1 to 5 and 16 are the file's
 abbrev pub trainFile : List ℕ → List ℕ → List ℤ → TrainingLeft
-trainFile file a g = trainRead (reading file) a g
+trainFile file a g = fileFirst (λ why. unchanged why a g) (λ p order items. trainItems p items a g) (reading file)
 
 -- the refusal that an answer is
 abbrev pub trainingRefusal : Training → Refusal

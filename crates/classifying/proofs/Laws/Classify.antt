@@ -18,13 +18,10 @@ use Rattle.integers.proofs.Laws.Bounds.{+ℤ-bound, -ℤ-bound, *ℤ-bound}
 use Rattle.integers.proofs.Laws.Places.{all-first, all-true}
 use Rattle.training_file.specs.declared.parameters.Parameters.{Parameters}
 use Rattle.training_file.specs.declared.item.Item.{Item}
-use Rattle.training_file.specs.declared.refusal.Refusal.{Refusal}
 use Rattle.training_file.specs.Refusal.{refusal}
 use Rattle.training_file.specs.Layout.{featureCount}
 use Rattle.training_file.specs.Item.{featureAllowed, featuresAllowed, itemAllowed, labelAllowed, zeroPast, itemIn}
-use Rattle.reading.specs.declared.reader.FileAnswer.the-variants as file-answer
-use Rattle.reading.specs.Reading.{Reading, refused, accepted, reading}
-use Rattle.reading.specs.Calls.{Read, itemsIn, fileAnswer}
+use Rattle.reading.proofs.Laws.Calls.{first-either}
 use Rattle.dual_problem.specs.Kernel.{kernelBetween}
 use Rattle.dual_problem.proofs.Laws.Kernel.{kernelValue-comm, kernelValue-cong}
 use Rattle.dual_problem.specs.Problem.{LabelsPresent, problem, at}
@@ -41,7 +38,7 @@ use Rattle.classifying.specs.declared.classify.Class.{Class}
 use Rattle.classifying.specs.declared.classify.Class.the-variants.{LookedUp, PassedOver, Undecided}
 use Rattle.classifying.specs.declared.classify.Classified.{Classified}
 use Rattle.classifying.specs.declared.classify.Classified.the-variants.{Refused, Is}
-use Rattle.classifying.specs.Classify.{Means, UndecidedUnlessRefused, SameFeatures, classOf, classifyItems, classifyJudged, classifyRead, classifying, score, scoreWith, wordAllowed, wordKernel}
+use Rattle.classifying.specs.Classify.{Means, UndecidedUnlessRefused, SameFeatures, classOf, classifyItems, classifyJudged, classifying, score, scoreWith, wordAllowed, wordKernel}
 
 -- ---- the kernel
 -- K of an item and the word, either way round
@@ -113,15 +110,6 @@ pub class-exactly : (class : Class) (value : ℤ) → (classOf value ≡ class) 
 class-exactly class value = (λ e. subst (λ k. Means k value) e (class-means value), means-class class value)
 
 -- ---- the answer, by the stage that gives it
--- a refusal of the file is the answer
-pub classify-refused : (r : Reading) (a : List ℕ) (word : List ℤ) (why : Refusal) → fileAnswer r ≡ file-answer.Refused why → classifyRead r a word ≡ Refused why
-classify-refused (refused met) a word why e = let q : met ≡ why = cc in ap Refused q
-classify-refused (accepted p order items) a word why e = let z : _≡_ {A = ℕ} 0 1 = cc in absurd (omega arith)
-
--- a file that was read is classified by its items
-pub classify-read : (file a : List ℕ) (word : List ℤ) {p : Parameters} {n : ℕ} → Read file p n → classifyItems p (itemsIn (reading file)) a word ≡ classifying file a word
-classify-read file a word {p} r = ap (λ x. classifyItems p (itemsIn x) a word) (r .is) ∙ sym (ap (λ x. classifyRead x a word) (r .is))
-
 module _ (p : Parameters) (items : List Item) (a : List ℕ) (word : List ℤ) where
   abbrev pub class : Classified
   class = Is (classOf (score p items (at a) word))
@@ -168,13 +156,11 @@ zeros-score p items a zeros present word =
 
 -- with such multipliers a word that isn't refused is undecided
 pub zeros-undecided : (file a : List ℕ) (word : List ℤ) → ((i : ℕ) → at a i ≡ 0) → UndecidedUnlessRefused (classifying file a word)
-zeros-undecided file a word zeros = by (reading file) refl
+zeros-undecided file a word zeros =
+    first-either _ _ file (λ r answer. UndecidedUnlessRefused answer) (λ why e. tt)
+    (λ p order items e. chose-either UndecidedUnlessRefused (eqb (length word) (p .used)) (by p items (labels-present file p order items e) (judgement (problem p items) a)) tt)
   where
-    by : (r : Reading) → reading file ≡ r → UndecidedUnlessRefused (classifyRead r a word)
-    by (refused why) e = tt
-    by (accepted p order items) e = chose-either UndecidedUnlessRefused (eqb (length word) (p .used)) (by-judgement (judgement (problem p items) a)) tt
-      where
-        by-judgement : (j : Judgement) → UndecidedUnlessRefused (classifyJudged p items a word j)
-        by-judgement (judged.Refused why) = tt
-        by-judgement judged.Feasible =
-            chose-either UndecidedUnlessRefused (wordAllowed word) (ap classOf (zeros-score p items (at a) (λ i l. zeros i) (labels-present file p order items e) word)) tt
+    by : (p : Parameters) (items : List Item) → LabelsPresent (problem p items) → (j : Judgement) → UndecidedUnlessRefused (classifyJudged p items a word j)
+    by p items present (judged.Refused why) = tt
+    by p items present judged.Feasible =
+        chose-either UndecidedUnlessRefused (wordAllowed word) (ap classOf (zeros-score p items (at a) (λ i l. zeros i) present word)) tt

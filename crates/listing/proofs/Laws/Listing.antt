@@ -12,44 +12,34 @@ use lib.ListN.{length, drop, getD, length-append}
 use Rattle.integers.proofs.Laws.Test.{&&-true}
 use Rattle.integers.specs.Written.{written}
 use Rattle.integers.proofs.Laws.Written.{written-at}
+use Rattle.training_file.specs.declared.parameters.Parameters.{Parameters}
+use Rattle.training_file.specs.declared.item.Item.{Item}
 use Rattle.training_file.specs.Refusal.{refusal}
 use Rattle.training_file.specs.Parameters.{recordsMost}
 use Rattle.training_file.specs.Item.{itemIn}
 use Rattle.reading.specs.Reading.{Reading, refused, accepted, reading}
 use Rattle.reading.proofs.Laws.Reading.{accepted-is}
-use Rattle.reading.specs.Calls.{Read, itemsIn, orderIn, fileAnswer, tableAfter}
+use Rattle.reading.specs.Calls.{itemsIn, orderIn, fileAnswer}
+use Rattle.reading.proofs.Laws.Calls.{first-either}
 use Rattle.reading.proofs.Laws.Reading.Accepted.{accepted-ranges, items-counted, items-most, numbers-within}
 use Rattle.dual_problem.specs.Problem.{problem, at}
 use Rattle.dual_problem.proofs.Laws.Problem.Ceilings.{feasible-most}
-use Rattle.dual_problem.specs.Items.{Listed}
-use Rattle.dual_problem.proofs.Laws.Items.Read.{read-listed}
 use Rattle.smo.specs.Run.{training}
 use Rattle.smo.specs.Answer.{trainedOf}
-use Rattle.training.specs.Train.{endedWith, unchanged, trainRead}
+use Rattle.training.specs.Train.{TrainingLeft, endedWith, unchanged, trainFile, trainItems}
 use Rattle.training.proofs.Laws.Train.{accepted-sound}
 use Rattle.totals.specs.Totals.{totals}
 use Rattle.lines.specs.Lines.{itemLine, itemsWithTotal, joined, resultLine, shownAt, totalLine}
 use Rattle.lines.proofs.Laws.Lines.{item-length, items-cong, joined-length, refusal-length, result-length, total-length}
 use Rattle.listing.specs.Listing.{itemCount, listing, listingOf}
 
--- ---- the table that the code reads serves, and its count is that of the items
+-- ---- the count that the code reads is that of the items
 pub count-items : (file : List ℕ) → itemCount (fileAnswer (reading file)) ≡ length (itemsIn (reading file))
 count-items file = by (reading file) refl
   where
     by : (r : Reading) → reading file ≡ r → itemCount (fileAnswer r) ≡ length (itemsIn r)
     by (refused why) e = refl
     by (accepted p order items) e = sym (items-counted file p order items (accepted-is file p order items e))
-
-pub reading-listed : (file table : List ℕ) → length table ≡ recordsMost → Listed file (tableAfter (reading file) table) (length (itemsIn (reading file)))
-reading-listed file table long = by (reading file) refl
-  where
-    by : (r : Reading) → reading file ≡ r → Listed file (tableAfter (reading file) table) (length (itemsIn (reading file)))
-    by (refused why) e =
-        let none : length (itemsIn (reading file)) ≡ 0 = ap (λ x. length (itemsIn x)) e in
-        record { few = omega arith; counted = refl; tabled = λ i l. absurd (omega arith); in-range = λ i l. absurd (omega arith) }
-    by (accepted p order items) e =
-        let r : Read file p (length (itemsIn (reading file))) = record { order = order; items = items; is = e; counted = ap (λ x. length (itemsIn x)) e } in
-        read-listed r table long
 
 pub items-few : (file : List ℕ) → length (itemsIn (reading file)) ≤ recordsMost
 items-few file = by (reading file) refl
@@ -58,19 +48,23 @@ items-few file = by (reading file) refl
     by (refused why) e = omega arith
     by (accepted p order items) e = items-most file p order items (accepted-is file p order items e)
 
--- ---- what training answers and leaves prints as the listing
-pub listing-trained : (r : Reading) (a : List ℕ) (g : List ℤ) → length (itemsIn r) ≤ length a → length (itemsIn r) ≤ length g
-    → listing (trainRead r a g .answer) (orderIn r) (itemsIn r) (at (trainRead r a g .multipliers)) ≡ listingOf r
+-- ---- what training answers and leaves prints as the listing, where both lists are long enough
+abbrev Prints : List ℕ → List ℤ → Reading → TrainingLeft → Type 0
+Prints a g r left = length (itemsIn r) ≤ length a → length (itemsIn r) ≤ length g → listing (left .answer) (orderIn r) (itemsIn r) (at (left .multipliers)) ≡ listingOf r
+
+pub listing-trained : (file a : List ℕ) (g : List ℤ) → Prints a g (reading file) (trainFile file a g)
 unfolding listing listingOf
-listing-trained (refused why) a g h k = refl
-listing-trained (accepted p order items) a g h k =
-    let P = problem p items in
-    let o = training P (p .tolerance) (p .budget) in
-    let e : leb (length items) (length a) && leb (length items) (length g) ≡ true = &&-true (le-leb _ _ h) (le-leb _ _ k) in
-    (λ t. let left = cond (e t) (endedWith P o a g) (unchanged (refusal 6) a g) in listing (left .answer) order items (at (left .multipliers)))
-    ∙ ap (λ lines. resultLine (trainedOf P o) ++ lines)
-    (items-cong (length items) (shownAt order items (at (written (length items) (at (o .multipliers)) a))) (shownAt order items (at (o .multipliers)))
-    (λ i l. ap (λ multiplier. record { number = getD order i 0; label = itemIn items i .label; multiplier = multiplier }) (written-at (length items) (at (o .multipliers)) a 0 h i l)))
+listing-trained file a g = first-either _ _ file (Prints a g) (λ why e h k. refl) (λ p order items e. accepted-prints p order items)
+  where
+    accepted-prints : (p : Parameters) (order : List ℕ) (items : List Item) → Prints a g (accepted p order items) (trainItems p items a g)
+    accepted-prints p order items h k =
+        let P = problem p items in
+        let o = training P (p .tolerance) (p .budget) in
+        let e : leb (length items) (length a) && leb (length items) (length g) ≡ true = &&-true (le-leb _ _ h) (le-leb _ _ k) in
+        (λ t. let left = cond (e t) (endedWith P o a g) (unchanged (refusal 6) a g) in listing (left .answer) order items (at (left .multipliers)))
+        ∙ ap (λ lines. resultLine (trainedOf P o) ++ lines)
+        (items-cong (length items) (shownAt order items (at (written (length items) (at (o .multipliers)) a))) (shownAt order items (at (o .multipliers)))
+        (λ i l. ap (λ multiplier. record { number = getD order i 0; label = itemIn items i .label; multiplier = multiplier }) (written-at (length items) (at (o .multipliers)) a 0 h i l)))
 
 -- ---- no listing is longer than 4,096 bytes
 pub listing-fits : (file : List ℕ) → length (listingOf (reading file)) ≤ 4096

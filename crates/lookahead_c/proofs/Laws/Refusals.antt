@@ -19,6 +19,7 @@ use Rattle.reading.specs.declared.reader.FileAnswer.{FileAnswer}
 use Rattle.reading.specs.declared.reader.FileAnswer.the-variants as read
 use Rattle.reading.specs.Reading.{Reading, refused, accepted, reading}
 use Rattle.reading.specs.Calls.{fileAnswer, fileRefusal}
+use Rattle.reading.proofs.Laws.Calls.{first-either}
 use Rattle.reading.proofs.Laws.Reading.Fault.{refused-one-of}
 use Rattle.dual_problem.specs.Problem.{Problem, problem, at}
 use Rattle.thresholds.specs.declared.extremes.Thresholds.{Thresholds}
@@ -27,13 +28,13 @@ use Rattle.certifying.specs.declared.certify.Certified.the-variants as certifie
 use Rattle.certifying.specs.declared.multipliers.Judgement.{Judgement}
 use Rattle.certifying.specs.declared.multipliers.Judgement.the-variants as judged
 use Rattle.certifying.specs.Multipliers.{balance, judgement, withinCeilings}
-use Rattle.certifying.specs.Certify.{certifiedRefusal, certifying, certifyJudged, certifyRead}
+use Rattle.certifying.specs.Certify.{certifiedRefusal, certifying, certifyJudged}
 use Rattle.training.specs.declared.train.Training.{Training}
 use Rattle.training.specs.declared.train.Training.the-variants as training
-use Rattle.training.specs.Train.{TrainingLeft, trainFile, trainRead, trainingRefusal}
+use Rattle.training.specs.Train.{TrainingLeft, trainFile, trainingRefusal}
 use Rattle.classifying.specs.declared.classify.Classified.{Classified}
 use Rattle.classifying.specs.declared.classify.Classified.the-variants as classified
-use Rattle.classifying.specs.Classify.{classifiedRefusal, classifying, classifyItems, classifyJudged, classifyRead, wordAllowed}
+use Rattle.classifying.specs.Classify.{classifiedRefusal, classifying, classifyItems, classifyJudged, wordAllowed}
 use Rattle.lookahead_c.specs.Reading.{ReadNumbers, readSeen}
 use Rattle.lookahead_c.specs.Training.{TrainNumbers, trainSeen}
 use Rattle.lookahead_c.specs.Certifying.{certifySeen}
@@ -54,12 +55,10 @@ caused numbers number l u e = one-of-alone numbers number e (λ q. omega arith) 
 -- ---- training
 pub train-refusals : (file a : List ℕ) (g : List ℤ) → TrainRefusals (trainFile file a g .answer)
 unfolding every
-train-refusals file a g = by (reading file) refl where
-  by : (x : Reading) → reading file ≡ x → TrainRefusals (trainRead x a g .answer)
-  by (refused why) e = one-of-more readingRefuses trainingRefuses why refl (refused-one-of file why e)
-  by (accepted p order items) e =
-      chose-either (λ (left : TrainingLeft). TrainRefusals (left .answer)) (leb (length items) (length a) && leb (length items) (length g)) tt
-      (caused trainingRefuses 6 (omega arith) (omega arith) refl)
+train-refusals file a g =
+    first-either _ _ file (λ r (left : TrainingLeft). TrainRefusals (left .answer)) (λ why e. one-of-more readingRefuses trainingRefuses why refl (refused-one-of file why e))
+    (λ p order items e. chose-either (λ (left : TrainingLeft). TrainRefusals (left .answer)) (leb (length items) (length a) && leb (length items) (length g)) tt
+    (caused trainingRefuses 6 (omega arith) (omega arith) refl))
 
 -- ---- judged multipliers: 6 to 8
 abbrev JudgedRefusals : Judgement → Type 0
@@ -81,10 +80,9 @@ certify-judged P a judged.Feasible n = tt
 
 pub certify-refusals : (file a : List ℕ) → CertifyRefusals (certifying file a)
 unfolding every
-certify-refusals file a = by (reading file) refl where
-  by : (x : Reading) → reading file ≡ x → CertifyRefusals (certifyRead x a)
-  by (refused why) e = one-of-more readingRefuses certifyingRefuses why refl (refused-one-of file why e)
-  by (accepted p order items) e = certify-judged (problem p items) a (judgement (problem p items) a) (judged-refusals (problem p items) a)
+certify-refusals file a =
+    first-either _ _ file (λ r answer. CertifyRefusals answer) (λ why e. one-of-more readingRefuses certifyingRefuses why refl (refused-one-of file why e))
+    (λ p order items e. certify-judged (problem p items) a (judgement (problem p items) a) (judged-refusals (problem p items) a))
 
 -- ---- classifying
 module _ (p : Parameters) (items : List Item) (a : List ℕ) (word : List ℤ) where
@@ -101,10 +99,9 @@ module _ (p : Parameters) (items : List Item) (a : List ℕ) (word : List ℤ) w
 
 pub classify-refusals : (file a : List ℕ) (word : List ℤ) → ClassifyRefusals (classifying file a word)
 unfolding every
-classify-refusals file a word = by (reading file) refl where
-  by : (x : Reading) → reading file ≡ x → ClassifyRefusals (classifyRead x a word)
-  by (refused why) e = one-of-more readingRefuses classifyingRefuses why refl (refused-one-of file why e)
-  by (accepted p order items) e = classify-items p items a word
+classify-refusals file a word =
+    first-either _ _ file (λ r answer. ClassifyRefusals answer) (λ why e. one-of-more readingRefuses classifyingRefuses why refl (refused-one-of file why e))
+    (λ p order items e. classify-items p items a word)
 
 -- ---- the record that a caller sees
 none-refused : RecordCarried noRefusal

@@ -14,23 +14,24 @@ use Rattle.integers.specs.Written.{written}
 use Rattle.integers.proofs.Laws.Written.{written-at, written-cong, written-front}
 use Rattle.training_file.specs.declared.parameters.Parameters.{Parameters}
 use Rattle.training_file.specs.declared.item.Item.{Item}
-use Rattle.training_file.specs.declared.refusal.Refusal.{Refusal}
 use Rattle.training_file.specs.Refusal.{refusal}
-use Rattle.reading.specs.declared.reader.FileAnswer.the-variants as file-answer
-use Rattle.reading.specs.Reading.{Reading, refused, accepted, reading}
-use Rattle.reading.specs.Calls.{Read, itemsIn, fileAnswer}
+use Rattle.reading.specs.declared.reader.FileAnswer.{FileAnswer}
+use Rattle.reading.specs.declared.reader.FileAnswer.the-variants.{Accepted}
+use Rattle.reading.specs.Reading.{accepted, reading}
+use Rattle.reading.specs.Calls.{fileAnswer}
+use Rattle.reading.proofs.Laws.Calls.{first-accepted, first-either}
 use Rattle.dual_problem.specs.Problem.{Problem, Feasible, problem, gradient, at}
 use Rattle.dual_problem.proofs.Laws.Problem.{problem-gram}
 use Rattle.dual_problem.proofs.Laws.Problem.Same.{gradient-cong, b-up-cong, b-low-cong}
 use Rattle.dual_problem.proofs.Laws.Problem.Zeros.{zeros-feasible}
-use Rattle.dual_problem.specs.Items.{problemOf}
-use Rattle.dual_problem.proofs.Laws.Items.Read.{features-in-range, labels-present}
+use Rattle.dual_problem.proofs.Laws.Items.Read.{answer-accepted, features-in-range, labels-present}
 use Rattle.smo.specs.Run.{run, training, zeros}
 use Rattle.smo.specs.Run.Meaning.{Sound}
 use Rattle.smo.proofs.Laws.Run.{zeros-length, training-length, training-sound}
 use Rattle.smo.proofs.Laws.Run.Append.{run-append}
-use Rattle.smo.specs.Answer.{trainedOf}
-use Rattle.training.specs.Train.{ResultQuality, TrainingQuality, endedWith, unchanged, trainFile, trainRead}
+use Rattle.smo.specs.Answer.{RunLeft, trainedOf}
+use Rattle.training.specs.declared.train.Training.the-variants.{Ended}
+use Rattle.training.specs.Train.{ResultQuality, TrainingLeft, TrainingQuality, endedWith, unchanged, trainFile, trainFrom}
 
 module _ (P : Problem) (l : List ℕ) (long : P .count ≤ length l) where
   -- the list with 0 at the first n places
@@ -86,7 +87,9 @@ accepted-sound file p order items e =
     training-sound (problem p items) (problem-gram p items (features-in-range file p order items e)) (labels-present file p order items e) (p .tolerance) (p .budget)
 
 pub training-quality : (file a : List ℕ) (g : List ℤ) → TrainingQuality (reading file) (trainFile file a g .answer) (trainFile file a g .multipliers)
-training-quality file a g = by-reading (reading file) refl
+training-quality file a g =
+    first-either _ _ file (λ r (left : TrainingLeft). TrainingQuality r (left .answer) (left .multipliers)) (λ why e. tt)
+    (λ p order items e. by p order items e (leb (length items) (length a) && leb (length items) (length g)) refl)
   where
     by : (p : Parameters) (order : List ℕ) (items : List Item) → reading file ≡ accepted p order items
         → (x : Bool) → leb (length items) (length a) && leb (length items) (length g) ≡ x
@@ -105,26 +108,16 @@ training-quality file a g = by-reading (reading file) refl
           stuck-exactly = s .stuck-exactly;
         })
 
-    by-reading : (r : Reading) → reading file ≡ r → TrainingQuality r (trainRead r a g .answer) (trainRead r a g .multipliers)
-    by-reading (refused why) e = tt
-    by-reading (accepted p order items) e = by p order items e (leb (length items) (length a) && leb (length items) (length g)) refl
-
 -- ---- the call
--- a refusal of the file is the answer, and nothing changes
-pub train-refused : (r : Reading) (a : List ℕ) (g : List ℤ) (why : Refusal) → fileAnswer r ≡ file-answer.Refused why → trainRead r a g ≡ unchanged why a g
-train-refused (refused met) a g why e = let q : met ≡ why = cc in λ k. unchanged (q k) a g
-train-refused (accepted p order items) a g why e = let z : _≡_ {A = ℕ} 0 1 = cc in absurd (omega arith)
+-- what a run leaves, as the call answers it
+abbrev pub ended : RunLeft → TrainingLeft
+ended left = record { answer = Ended (left .trained); multipliers = left .multipliers; gradient = left .gradient }
 
-module _ {file : List ℕ} {p : Parameters} {n : ℕ} (r : Read file p n) (a : List ℕ) (g : List ℤ) where
-  -- a list is too short
-  pub train-short : leb n (length a) && leb n (length g) ≡ false → trainFile file a g ≡ unchanged (refusal 6) a g
-  train-short e =
-      ap (λ x. trainRead x a g) (r .is)
-      ∙ ap (λ x. cond x (endedWith (problem p (r .items)) (training (problem p (r .items)) (p .tolerance) (p .budget)) a g) (unchanged (refusal 6) a g)) (ap (λ m. leb m (length a) && leb m (length g)) (sym (r .counted)) ∙ e)
-
-  -- both are long enough
-  pub train-ended : leb n (length a) && leb n (length g) ≡ true → trainFile file a g ≡ endedWith (problemOf file p) (training (problemOf file p) (p .tolerance) (p .budget)) a g
-  train-ended e =
-      ap (λ x. trainRead x a g) (r .is)
-      ∙ ap (λ x. cond x (endedWith (problem p (r .items)) (training (problem p (r .items)) (p .tolerance) (p .budget)) a g) (unchanged (refusal 6) a g)) (ap (λ m. leb m (length a) && leb m (length g)) (sym (r .counted)) ∙ e)
-      ∙ sym (ap (λ x. endedWith (problem p (itemsIn x)) (training (problem p (itemsIn x)) (p .tolerance) (p .budget)) a g) (r .is))
+-- of a file that is accepted, the lengths of the lists decide
+pub train-lengths : (file a : List ℕ) (g : List ℤ) {answer : FileAnswer} {p : Parameters} {n : ℕ} {long : Bool}
+    → answer ≡ fileAnswer (reading file) → answer ≡ Accepted p n → leb n (length a) && leb n (length g) ≡ long
+    → cond long (ended (trainFrom file p n a g)) (unchanged (refusal 6) a g) ≡ trainFile file a g
+train-lengths file a g {p = p} told e long =
+    let counted = sym (answer-accepted file told e .0) in
+    (λ k. cond ((sym long ∙ ap (λ m. leb m (length a) && leb m (length g)) counted) k) (ended (trainFrom file p (counted k) a g)) (unchanged (refusal 6) a g))
+    ∙ first-accepted _ _ (reading file) told e

@@ -26,8 +26,8 @@ slice-aggregate-put-training c = search needs
 -- the text is that of training's own answer and multipliers
 text-is : (c : tie.After-train) → listingIn (c .train .result) (c .before .before .before .before .args .file .now) (c .train .last .1 .0) ≡ listingOf (reading (c .before .before .before .before .args .file .now))
 text-is c =
-    let r = reading (c .before .before .before .before .args .file .now) in
-    (λ k. let left = c .train .ensures .0 k in listing (left .answer) (orderIn r) (itemsIn r) (at (left .multipliers))) ∙ listing-trained r _ _ (items-few _) (items-few _)
+    let f = c .before .before .before .before .args .file .now in
+    (λ k. let left = c .train .ensures .0 k in listing (left .answer) (orderIn (reading f)) (itemsIn (reading f)) (at (left .multipliers))) ∙ listing-trained f _ _ (items-few f) (items-few f)
 
 put-training-requires : tie.Need-put-training-requires
 put-training-requires c κs =

@@ -8,9 +8,10 @@ use Rattle.buffer.proofs.Laws.Put.{put-as, put-then, room-as, room-first, room-
 use Rattle.reading.specs.Reading.{reading}
 use Rattle.reading.specs.Calls.{itemsIn}
 use Rattle.dual_problem.specs.Items.{Listed}
+use Rattle.dual_problem.proofs.Laws.Items.Read.{reading-listed}
 use Rattle.lines.specs.Lines.{itemsWithTotal, shownIn}
 use Rattle.listing.specs.Listing.{itemCount, listing}
-use Rattle.listing.proofs.Laws.Listing.{count-items, reading-listed}
+use Rattle.listing.proofs.Laws.Listing.{count-items}
 use Rattle.listing.proofs.list.put_trained.Statement.{statement}
 use Rattle.listing.proofs.list.put_trained.Tie as tie
 
