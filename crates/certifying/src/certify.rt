@@ -3,15 +3,14 @@
 ghost use mathlib.Core.Path.{_≡_};
 ghost use Rattle.training_file.specs.Parameters.{Ranges};
 ghost use Rattle.reading.specs.Reading.{reading};
-ghost use Rattle.dual_problem.specs.Items.{Listed, problemOf};
+ghost use Rattle.dual_problem.specs.FileProblem.{Listed, problemOf};
 ghost use Rattle.certifying.specs.Certify.{CertifiedDistance, certifiedRefusal, certifyItems, certifying};
 use super::multipliers::Judgement;
-use super::multipliers::judge;
+use super::multipliers::judge_multipliers;
 use reading::reader;
 use reading::reader::FileAnswer;
 use thresholds::extremes::Thresholds;
 use thresholds::extremes::find_thresholds;
-use training_file::item::Item;
 use training_file::parameters::Parameters;
 use training_file::refusal::Refusal;
 
@@ -43,7 +42,7 @@ fn certify_read(
     requires { ⌜ Listed (now file) (now order) count × Ranges parameters ⌝ }
     ensures { λ r. ⌜ r ≡ certifyItems (problemOf (now (file .entry)) parameters) (now (multipliers .entry)) ⌝ }
 {
-    let judgement = judge(file, order, count, parameters, multipliers);
+    let judgement = judge_multipliers(file, order, count, parameters, multipliers);
     let Judgement::Feasible = judgement else {
         return Certified::Refused(judgement.refusal());
     };
@@ -55,7 +54,7 @@ pub fn certify(file: &[u8], multipliers: &[u32]) -> Certified
     ensures answer { λ r. ⌜ r ≡ certifying (now (file .entry)) (now (multipliers .entry)) ⌝ }
     ensures distance { λ r. ⌜ CertifiedDistance (reading (now (file .entry))) (now (multipliers .entry)) r ⌝ }
 {
-    let mut order = [0u16; Item::MAX_COUNT];
+    let mut order = [0u16; Parameters::MAX_RECORDS];
     let answer = reader::order(file, &mut order);
     let FileAnswer::Accepted(parameters, count) = answer else {
         return Certified::Refused(answer.refusal());

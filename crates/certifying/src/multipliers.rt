@@ -4,7 +4,7 @@ ghost use mathlib.Core.Path.{_≡_};
 ghost use Prim.Native.Nat.{_≤_};
 ghost use lib.ListN.{length};
 ghost use Rattle.training_file.specs.declared.parameters.Parameters.{Parameters};
-ghost use Rattle.dual_problem.specs.Items.{Listed, problemOf};
+ghost use Rattle.dual_problem.specs.FileProblem.{Listed, problemOf};
 ghost use Rattle.dual_problem.specs.Problem.{at};
 ghost use Rattle.certifying.specs.Multipliers.{balance, judgement, judgementRefusal, withinCeilings};
 use dual_problem::label::ceiling;
@@ -68,7 +68,7 @@ fn signed_sum(file: &[u8], order: &[u16], count: usize, multipliers: &[u32]) -> 
 }
 
 // Whether the multipliers are feasible, or the first refusal that applies to them.
-pub fn judge(
+pub fn judge_multipliers(
     file: &[u8],
     order: &[u16],
     count: usize,

@@ -1,4 +1,4 @@
--- The chain of a training file: Walk, Chain (what the walk comes to), Stages (the contracts of the code).
+-- The chain of a training file: Walk, Chain (what the walk comes to), Answers (what the code answers).
 pub mod Walk
 pub mod Chain
-pub mod Stages
+pub mod Answers

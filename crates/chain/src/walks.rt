@@ -1,21 +1,21 @@
 // The chain, walked over the borrowed file record by record: once to see that it ends, and that it meets no record twice, once to judge its
-// records, and once to write down its order. Each step is the walker's.
+// records, and once to write down its order. Each link is asked of the walker.
 
 ghost use mathlib.Core.Path.{_≡_};
 ghost use Rattle.training_file.specs.Header.{WholeFile};
 ghost use Rattle.chain.specs.Chain.{chainOf};
-ghost use Rattle.chain.specs.Stages.{Chained, judgeAnswer, orderOf, tableWith, walkAnswer};
-use super::step::Step;
+ghost use Rattle.chain.specs.Answers.{Chained, judgeAnswer, orderOf, tableWith, walkAnswer};
+use super::link::Link;
 use super::walker;
 use training_file::count::Count;
-use training_file::item::Item;
 use training_file::item::LabelAnswer;
+use training_file::parameters::Parameters;
 use training_file::range::lesser;
 use training_file::record;
 use training_file::refusal::Refusal;
 
 // A place for each record number, and one for 0, which is none.
-const MARKS: usize = Item::MAX_COUNT + 1;
+const MARKS: usize = Parameters::MAX_RECORDS + 1;
 
 // How many records are on the chain. Refused where the next field of the last record met is over those stored, or leads to a record that has
 // its mark, which each gets when it is met.
@@ -28,14 +28,14 @@ pub fn walk(file: &[u8]) -> Count
     let mut number = walker::first(file);
     let mut met = 0;
     loop {
-        match walker::step_from(file, number, met) {
-            Step::Ended(count) => {
+        match walker::link_from(file, number, met) {
+            Link::Ended(count) => {
                 return Count::Counted(count);
             }
-            Step::Over => {
+            Link::Over => {
                 return Count::Refused(Refusal::at_record(Refusal::NEXT_OVER, last as u16));
             }
-            Step::Next(next) => {
+            Link::Next(next) => {
                 if marks[number] != 0 {
                     return Count::Refused(Refusal::at_record(Refusal::NEXT_MET, last as u16));
                 }
@@ -49,7 +49,7 @@ pub fn walk(file: &[u8]) -> Count
 }
 
 // How many of the items are looked up. Refused where a record on the chain is not allowed.
-pub fn judge(file: &[u8], count: usize, used: usize) -> Count
+pub fn judge_records(file: &[u8], count: usize, used: usize) -> Count
     requires { ⌜ Chained (now file) count ⌝ }
     ensures { λ r. ⌜ r ≡ judgeAnswer used (now (file .entry)) 0 (orderOf (now (file .entry))) ⌝ }
 {
@@ -57,7 +57,7 @@ pub fn judge(file: &[u8], count: usize, used: usize) -> Count
     let mut position = 0;
     let mut looked_up = 0;
     while position < count {
-        let answer = record::judge(file, number, used);
+        let answer = record::judge_record(file, number, used);
         let LabelAnswer::Known(label) = answer else {
             return Count::Refused(answer.refusal());
         };

@@ -19,7 +19,7 @@ use Rattle.reading.specs.Reading.{reading}
 use Rattle.dual_problem.specs.Size.{gradientMost}
 use Rattle.dual_problem.specs.Kernel.{kernelBetween}
 use Rattle.dual_problem.specs.Problem.{problem, at}
-use Rattle.dual_problem.specs.Items.{MultipliersListed, weighedSum}
+use Rattle.dual_problem.specs.FileProblem.{MultipliersListed, weighedSum}
 use Rattle.thresholds.specs.declared.extremes.Thresholds.{Thresholds}
 use Rattle.thresholds.specs.Extremes.{thresholdsOf}
 use Rattle.certifying.specs.declared.multipliers.Judgement.{Judgement}
@@ -50,10 +50,10 @@ classOf (pos zero) = Undecided  -- "undecided, for a score of exactly 0"
 classOf (negsuc n) = PassedOver  -- "otherwise passed over"
 
 -- what a class means, in the order of whole numbers: a score has it exactly then (`class-exactly`)
-abbrev pub Means : Class → ℤ → Type 0
-Means LookedUp value = pos 0 <ℤ value
-Means PassedOver value = value <ℤ pos 0
-Means Undecided value = value ≡ pos 0
+abbrev pub ClassMeans : Class → ℤ → Type 0
+ClassMeans LookedUp value = pos 0 <ℤ value
+ClassMeans PassedOver value = value <ℤ pos 0
+ClassMeans Undecided value = value ≡ pos 0
 
 -- whether each feature of a word is in the range that an item's are
 abbrev pub wordAllowed : List ℤ → Bool

@@ -4,12 +4,12 @@ ghost use mathlib.Core.Path.{_≡_};
 ghost use Rattle.training_file.specs.Parameters.{Ranges};
 ghost use Rattle.reading.specs.Reading.{reading};
 ghost use Rattle.reading.specs.Calls.{itemsIn};
-ghost use Rattle.dual_problem.specs.Items.{Listed};
+ghost use Rattle.dual_problem.specs.FileProblem.{Listed};
 ghost use Rattle.dual_problem.specs.Problem.{at};
 ghost use Rattle.classifying.specs.Classify.{Scorable, classOf, classifiedRefusal, classifyItems, classifying, scoreWith};
 use super::word::word_item;
 use certifying::multipliers::Judgement;
-use certifying::multipliers::judge;
+use certifying::multipliers::judge_multipliers;
 use dual_problem::gradient::weighed_sum;
 use reading::reader;
 use reading::reader::FileAnswer;
@@ -92,7 +92,7 @@ fn classify_read(
     if word.len() != parameters.used {
         return Classified::Refused(Refusal::LIST_LENGTH);
     }
-    let judgement = judge(file, order, count, parameters, multipliers);
+    let judgement = judge_multipliers(file, order, count, parameters, multipliers);
     let Judgement::Feasible = judgement else {
         return Classified::Refused(judgement.refusal());
     };
@@ -117,7 +117,7 @@ fn classify_read(
 pub fn classify(file: &[u8], multipliers: &[u32], word: &[i8]) -> Classified
     ensures { λ r. ⌜ r ≡ classifying (now (file .entry)) (now (multipliers .entry)) (now (word .entry)) ⌝ }
 {
-    let mut order = [0u16; Item::MAX_COUNT];
+    let mut order = [0u16; Parameters::MAX_RECORDS];
     let answer = reader::order(file, &mut order);
     let FileAnswer::Accepted(parameters, count) = answer else {
         return Classified::Refused(answer.refusal());

@@ -15,7 +15,7 @@ pub fn word_item(word: &[i8]) -> ItemAnswer
     ensures allowed { λ r. ⌜ r .allowed ≡ wordAllowed (now (word .entry)) ⌝ }
     ensures features { λ r. ⌜ SameFeatures (r .item .features) (now (word .entry)) ⌝ }
 {
-    let mut features = [0i8; Item::FEATURES];
+    let mut features = [0i8; Item::FEATURE_COUNT];
     let mut i = 0;
     while i < word.len() {
         features[i] = word[i];

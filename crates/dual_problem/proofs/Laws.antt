@@ -2,4 +2,4 @@
 pub mod Kernel
 pub mod Problem
 pub mod Size
-pub mod Items
+pub mod FileProblem

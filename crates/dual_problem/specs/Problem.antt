@@ -139,7 +139,7 @@ pub record BoundedDistance (P : Problem) (lower upper : ℤ) (a : ℕ → ℕ) :
 -- the ceiling of a label. Document 02, request (f): "The field c serves label +1", and of the ceiling for label −1 "0 means the same as c"
 abbrev pub ceilingOf : Parameters → Label → ℕ
 ceilingOf p LookedUp = p .ceiling
-ceilingOf p PassedOver = cond (eqb (p .second) 0) (p .ceiling) (p .second)
+ceilingOf p PassedOver = cond (eqb (p .«second_ceiling») 0) (p .ceiling) (p .«second_ceiling»)
 
 abbrev pub problem : Parameters → List Item → Problem
 problem p items =

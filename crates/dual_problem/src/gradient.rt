@@ -10,7 +10,7 @@ ghost use Rattle.training_file.specs.Layout.{featureCount};
 ghost use Rattle.reading.specs.Calls.{Tabled};
 ghost use Rattle.dual_problem.specs.Size.{gradientMost, kernelMost, termMost, weighedMost};
 ghost use Rattle.dual_problem.specs.Problem.{gradient as gradientOf, sign, at};
-ghost use Rattle.dual_problem.specs.Items.{MultipliersListed, added, problemOf, weighedWith};
+ghost use Rattle.dual_problem.specs.FileProblem.{MultipliersListed, added, problemOf, weighedWith};
 use super::kernel::kernel_value;
 use super::label::with_sign;
 use reading::reader::fetch;

@@ -25,10 +25,10 @@ pub fn ceiling(parameters: Parameters, label: Label) -> u32
     match label {
         Label::LookedUp => parameters.ceiling,
         Label::PassedOver => {
-            if parameters.second == 0 {
+            if parameters.second_ceiling == 0 {
                 parameters.ceiling
             } else {
-                parameters.second
+                parameters.second_ceiling
             }
         }
     }

@@ -1,6 +1,6 @@
 -- The laws that the proofs of every crate above cite: of ℤ and of tests, and those of X in specs/ in Laws/X.antt. No contract cites them.
 -- Assumes nothing.
-pub mod Test
+pub mod Truth
 pub mod Ring
 pub mod Solver
 pub mod Linear

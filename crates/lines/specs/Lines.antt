@@ -16,8 +16,8 @@ use Rattle.smo.specs.declared.ending.Ending.{Ending}
 use Rattle.smo.specs.declared.ending.Ending.the-variants.{Converged, Stuck, Spent}
 use Rattle.smo.specs.declared.run.Trained.{Trained}
 use Rattle.text.specs.Decimal.{decimal, signedDecimal}
-use Rattle.totals.specs.declared.totals.Shown.{Shown}
-use Rattle.totals.specs.declared.totals.Totals.{Totals}
+use Rattle.totals.specs.declared.sums.Shown.{Shown}
+use Rattle.totals.specs.declared.sums.Totals.{Totals}
 use Rattle.totals.specs.Totals.{totals}
 
 -- `converged`, `stuck`, `spent`

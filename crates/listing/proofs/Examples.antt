@@ -17,7 +17,7 @@ use Rattle.reading.specs.Reading.{reading, refused}
 use Rattle.reading.proofs.Examples.{sample}
 use Rattle.dual_problem.specs.Problem.{gradient, doubleSum, objective}
 use Rattle.working_pair.specs.Step.{amount, firstCandidate, workingPair}
-use Rattle.smo.specs.Run.{next, run}
+use Rattle.smo.specs.Run.{run, turn}
 use Rattle.lookahead.specs.Settled.{three}
 use Rattle.text.specs.Decimal.{digits, decimal, signedDecimal, value}
 use Rattle.text.specs.Parts.{before, parts}
@@ -31,7 +31,7 @@ three-records : listingOf (reading sample)
     ≡ (99 ∷ 111 ∷ 110 ∷ 118 ∷ 101 ∷ 114 ∷ 103 ∷ 101 ∷ 100 ∷ 32 ∷ 49 ∷ 32 ∷ 48 ∷ 32 ∷ 48 ∷ 10 ∷ [])
     ++ ((51 ∷ 32 ∷ 43 ∷ 32 ∷ 53 ∷ 10 ∷ []) ++ ((49 ∷ 32 ∷ 45 ∷ 32 ∷ 53 ∷ 10 ∷ []) ++ (116 ∷ 111 ∷ 116 ∷ 97 ∷ 108 ∷ 32 ∷ 50 ∷ 32 ∷ 53 ∷ 32 ∷ 53 ∷ 10 ∷ [])))
 unfolding
-    reading lengthAllowed headerAllowed parametersAllowed recordsMet every recordAllowed featuresAllowed labelled sum extreme first all gradient doubleSum objective amount firstCandidate workingPair next run digits decimal signedDecimal countAboveZero sumOver resultLine itemLine totalLine joined listing listingOf
+    reading lengthAllowed headerAllowed parametersAllowed recordsMet every recordAllowed featuresAllowed labelled sum extreme first all gradient doubleSum objective amount firstCandidate workingPair turn run digits decimal signedDecimal countAboveZero sumOver resultLine itemLine totalLine joined listing listingOf
 three-records = refl
 
 -- P9, with a multiplier of 0, which isn't counted: `converged 1 1 1`, `1 + 2`, `2 - 0`, `3 - 2`, `total 2 2 2`
@@ -39,7 +39,7 @@ p9-listing : listingOf (reading three)
     ≡ (99 ∷ 111 ∷ 110 ∷ 118 ∷ 101 ∷ 114 ∷ 103 ∷ 101 ∷ 100 ∷ 32 ∷ 49 ∷ 32 ∷ 49 ∷ 32 ∷ 49 ∷ 10 ∷ [])
     ++ ((49 ∷ 32 ∷ 43 ∷ 32 ∷ 50 ∷ 10 ∷ []) ++ ((50 ∷ 32 ∷ 45 ∷ 32 ∷ 48 ∷ 10 ∷ []) ++ ((51 ∷ 32 ∷ 45 ∷ 32 ∷ 50 ∷ 10 ∷ []) ++ (116 ∷ 111 ∷ 116 ∷ 97 ∷ 108 ∷ 32 ∷ 50 ∷ 32 ∷ 50 ∷ 32 ∷ 50 ∷ 10 ∷ []))))
 unfolding
-    reading lengthAllowed headerAllowed parametersAllowed recordsMet every recordAllowed featuresAllowed labelled sum extreme first all gradient doubleSum objective amount firstCandidate workingPair next run digits decimal signedDecimal countAboveZero sumOver resultLine itemLine totalLine joined listing listingOf
+    reading lengthAllowed headerAllowed parametersAllowed recordsMet every recordAllowed featuresAllowed labelled sum extreme first all gradient doubleSum objective amount firstCandidate workingPair turn run digits decimal signedDecimal countAboveZero sumOver resultLine itemLine totalLine joined listing listingOf
 p9-listing = refl
 
 -- its item lines read back: two multipliers above 0, the sums 2 and 2

@@ -9,8 +9,8 @@ use Rattle.reading.specs.declared.reader.FileAnswer.the-variants as reader
 use Rattle.reading.specs.Reading.{Reading, refused, accepted, reading}
 use Rattle.reading.specs.Calls.{itemsIn, orderIn}
 use Rattle.dual_problem.specs.Problem.{problem, at}
-use Rattle.smo.specs.Run.{training}
-use Rattle.smo.specs.Answer.{trainedOf}
+use Rattle.smo.specs.Run.{runFromZeros}
+use Rattle.smo.specs.Answers.{trainedOf}
 use Rattle.training.specs.declared.train.Training.{Training}
 use Rattle.training.specs.declared.train.Training.the-variants.{Refused, Ended}
 use Rattle.lines.specs.Lines.{itemsWithTotal, refusalLine, resultLine, shownAt}
@@ -34,5 +34,5 @@ listingIn answer file multipliers = listing answer (orderIn (reading file)) (ite
 unfoldable pub listingOf : Reading → List ℕ
 listingOf (refused why) = listing (Refused why) [] [] (at [])
 listingOf (accepted p order items) =
-    listing (Ended (trainedOf (problem p items) (training (problem p items) (p .tolerance) (p .budget)))) order items
-    (at (training (problem p items) (p .tolerance) (p .budget) .multipliers))
+    listing (Ended (trainedOf (problem p items) (runFromZeros (problem p items) (p .tolerance) (p .budget)))) order items
+    (at (runFromZeros (problem p items) (p .tolerance) (p .budget) .multipliers))

@@ -8,15 +8,15 @@ ghost use Rattle.buffer.specs.Put.{Put, Room};
 ghost use Rattle.reading.specs.Reading.{reading};
 ghost use Rattle.reading.specs.Calls.{itemsIn};
 ghost use Rattle.listing.specs.Listing.{itemCount, listingIn, listingOf};
-use lines::lines::put_items;
-use lines::lines::put_refusal;
-use lines::lines::put_result;
+use lines::print::put_items;
+use lines::print::put_refusal;
+use lines::print::put_result;
 use lookahead::FileAnswer;
 use lookahead::Trained;
 use lookahead::Training;
 use lookahead::read::read;
 use lookahead::train::train;
-use training_file::item::Item;
+use training_file::parameters::Parameters;
 
 // How many items a file has; a file that is refused has none.
 fn item_count(answer: FileAnswer) -> usize
@@ -34,7 +34,7 @@ fn put_trained(file: &[u8], trained: Trained, multipliers: &[u32], out: &mut [u8
         × Room (listingIn (Training.Ended trained) (now file) (now multipliers)) 0 (now out) ⌝ }
     ensures { λ r. ⌜ Put (listingIn (Training.Ended trained) (now (file .entry)) (now (multipliers .entry))) 0 (now (out .entry)) (now (out .exit)) r ⌝ }
 {
-    let mut order = [0u16; Item::MAX_COUNT];
+    let mut order = [0u16; Parameters::MAX_RECORDS];
     let count = item_count(read(file, &mut order));
     let end = put_result(out, 0, trained);
     put_items(file, &order, count, multipliers, out, end)
@@ -60,8 +60,8 @@ pub fn list(file: &[u8], out: &mut [u8; PLACES]) -> usize
     ensures end { λ r. ⌜ r ≡ length (listingOf (reading (now (file .entry)))) ⌝ }
     ensures buffer { λ r. ⌜ now (out .exit) ≡ listingOf (reading (now (file .entry))) ++ drop r (now (out .entry)) ⌝ }
 {
-    let mut multipliers = [0u32; Item::MAX_COUNT];
-    let mut gradient = [0i64; Item::MAX_COUNT];
+    let mut multipliers = [0u32; Parameters::MAX_RECORDS];
+    let mut gradient = [0i64; Parameters::MAX_RECORDS];
     let training = train(file, &mut multipliers, &mut gradient);
     put_training(file, training, &multipliers, out)
 }

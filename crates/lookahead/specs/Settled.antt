@@ -27,7 +27,7 @@ use Rattle.certifying.specs.Certify.{certifying}
 use Rattle.working_pair.specs.Step.{amount, firstCandidate, iLow, iUp, moves, workingPair}
 use Rattle.smo.specs.declared.ending.Ending.{Ending}
 use Rattle.smo.specs.declared.ending.Ending.the-variants.{Converged, Stuck, Spent}
-use Rattle.smo.specs.Run.{next, run}
+use Rattle.smo.specs.Run.{run, turn}
 use Rattle.training.specs.declared.train.Training.the-variants.{Ended}
 use Rattle.training.specs.Train.{TrainingLeft, trainFile, unchanged}
 use Rattle.classifying.specs.declared.classify.Class.the-variants.{LookedUp, PassedOver, Undecided}
@@ -166,7 +166,7 @@ settledExamples =
 
 pub settled : AllHold settledExamples
 unfolding
-    reading lengthAllowed headerAllowed parametersAllowed recordsMet every recordAllowed featuresAllowed labelled sum extreme first all written gradient doubleSum objective amount firstCandidate workingPair next run scoreWith
+    reading lengthAllowed headerAllowed parametersAllowed recordsMet every recordAllowed featuresAllowed labelled sum extreme first all written gradient doubleSum objective amount firstCandidate workingPair turn run scoreWith
 settled = (
   (refl, refl),
   (

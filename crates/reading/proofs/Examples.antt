@@ -34,8 +34,8 @@ sample =
 
 -- what it is read as, with the ceiling for label −1 as the header has it
 abbrev sampleRead : ℕ → Reading
-sampleRead second =
-    accepted (record { used = 1; kernel = Linear; grid = 10; ceiling = 100; second = second; tolerance = 0; budget = 50 }) (3 ∷ 1 ∷ [])
+sampleRead secondCeiling =
+    accepted (record { used = 1; kernel = Linear; grid = 10; ceiling = 100; «second_ceiling» = secondCeiling; tolerance = 0; budget = 50 }) (3 ∷ 1 ∷ [])
     (record { label = LookedUp; features = pos 1 ∷ replicate 15 (pos 0) } ∷ record { label = PassedOver; features = negsuc 0 ∷ replicate 15 (pos 0) } ∷ [])
 
 -- as it stands, with a ceiling for label −1 of 100, which is c, and with the highest one

@@ -7,7 +7,7 @@ use Rattle.training_file.specs.declared.parameters.Parameters.{Parameters}
 use Rattle.training_file.specs.declared.item.Item.{Item}
 use Rattle.training_file.specs.declared.refusal.Refusal.{Refusal}
 use Rattle.training_file.specs.Refusal.{noRefusal}
-use Rattle.chain.specs.Stages.{tableWith}
+use Rattle.chain.specs.Answers.{tableWith}
 use Rattle.reading.specs.declared.reader.FileAnswer.{FileAnswer}
 use Rattle.reading.specs.declared.reader.FileAnswer.the-variants.{Refused, Accepted}
 use Rattle.reading.specs.Reading.{Reading, accepted, reading, refused}

@@ -8,7 +8,6 @@ use training_file::bytes::u16_at;
 use training_file::bytes::u32_at;
 use training_file::bytes::u64_at;
 use training_file::count::Count;
-use training_file::item::Item;
 use training_file::layout;
 use training_file::parameters::Kernel;
 use training_file::parameters::KernelAnswer;
@@ -41,7 +40,7 @@ pub fn count_records(file: &[u8]) -> Count
         return Count::Refused(Refusal::FILE_LENGTH);
     }
     let stored = u16_at(file, layout::RECORDS_STORED) as usize;
-    if Item::MAX_COUNT < stored {
+    if Parameters::MAX_RECORDS < stored {
         return Count::Refused(Refusal::FILE_LENGTH);
     }
     if file.len() != layout::HEADER_LENGTH + layout::RECORD_LENGTH * stored {
@@ -70,7 +69,7 @@ pub fn read_parameters(file: &[u8]) -> ParametersAnswer
         kernel,
         grid: u32_at(file, layout::GRID),
         ceiling: u32_at(file, layout::CEILING),
-        second: u32_at(file, layout::SECOND_CEILING),
+        second_ceiling: u32_at(file, layout::SECOND_CEILING),
         tolerance: u64_at(file, layout::TOLERANCE),
         budget: u32_at(file, layout::BUDGET),
     };

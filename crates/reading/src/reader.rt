@@ -49,7 +49,7 @@ pub fn read(file: &[u8]) -> FileAnswer
     let Count::Counted(items) = walked else {
         return FileAnswer::Refused(walked.refusal());
     };
-    let judged = walks::judge(file, items, parameters.used);
+    let judged = walks::judge_records(file, items, parameters.used);
     let Count::Counted(looked_up) = judged else {
         return FileAnswer::Refused(judged.refusal());
     };
@@ -82,7 +82,7 @@ pub fn fetch(file: &[u8], table: &[u16], place: usize) -> Item
     ensures { λ r. ⌜ r ≡ itemIn (itemsIn (reading (now (file .entry)))) place ⌝ }
 {
     let number = table[place];
-    record::fetch(file, number as usize)
+    record::item_at(file, number as usize)
 }
 
 // The label of that item, without its features.
@@ -91,5 +91,5 @@ pub fn fetch_label(file: &[u8], table: &[u16], place: usize) -> Label
     ensures { λ r. ⌜ r ≡ itemIn (itemsIn (reading (now (file .entry)))) place .label ⌝ }
 {
     let number = table[place];
-    record::fetch_label(file, number as usize)
+    record::label_at(file, number as usize)
 }

@@ -7,7 +7,7 @@ use libc::STDOUT_FILENO;
 use reading::reader;
 use reading::reader::FileAnswer;
 use training_file::bytes::u16_at;
-use training_file::item::Item;
+use training_file::parameters::Parameters;
 use training_file::refusal::Refusal;
 
 // More files than there are.
@@ -17,7 +17,7 @@ const MOST: usize = 1_000;
 const LONGEST: usize = 5_172;
 
 // The places of the longest order table.
-const PLACES: usize = Item::MAX_COUNT;
+const PLACES: usize = Parameters::MAX_RECORDS;
 
 fn show_number(number: u16) {
     io::write_all(STDOUT_FILENO, b" ");

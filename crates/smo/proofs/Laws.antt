@@ -1,3 +1,3 @@
 -- The laws of the definitions in specs/: those of X are in Laws/X.antt. No contract cites them. Assumes nothing.
 pub mod Run
-pub mod Answer
+pub mod Answers

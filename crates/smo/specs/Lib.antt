@@ -1,3 +1,3 @@
 -- Document 01, "The step": the run, and what its endings mean. Assumes nothing.
 pub mod Run
-pub mod Answer
+pub mod Answers

@@ -28,16 +28,16 @@ abbrev pub decision : Problem → ℕ → List ℕ → Decision
 decision P t a = decided (leZ (bLow P (at a)) (bUp P (at a) +ℤ pos (2 * t))) (pairOf (workingPair P a))
 
 -- what comes of it: training ends, or a move leads to the next multipliers
-pub data Next : Type 0 where
-  ends : Ending → Next
-  goesOn : List ℕ → Next
+pub data Turn : Type 0 where
+  stops : Ending → Turn
+  continues : List ℕ → Turn
 
-abbrev pub nextBy : Problem → List ℕ → Decision → Next
-nextBy P a (Ends ending) = ends ending
-nextBy P a (Moves i j) = goesOn (moved P a i j (amount P a i j))
+abbrev pub turnBy : Problem → List ℕ → Decision → Turn
+turnBy P a (Ends ending) = stops ending
+turnBy P a (Moves i j) = continues (moved P a i j (amount P a i j))
 
-unfoldable pub next : Problem → ℕ → List ℕ → Next
-next P t a = nextBy P a (decision P t a)
+unfoldable pub turn : Problem → ℕ → List ℕ → Turn
+turn P t a = turnBy P a (decision P t a)
 
 -- how a run ended, the steps that it took, and the multipliers that it left
 pub record Outcome : Type 0 where
@@ -51,19 +51,19 @@ oneStepMore o = record { ending = o .ending; steps = suc (o .steps); multipliers
 -- the run from the multipliers a that may take `limit` steps: "3. if the steps taken equal the budget, it is spent"
 unfoldable pub run : Problem → ℕ → ℕ → List ℕ → Outcome
 run P t zero a =
-    elim (next P t a) [
-      | ends ending ↦ record { ending = ending; steps = 0; multipliers = a }
-      | goesOn b ↦ record { ending = Spent; steps = 0; multipliers = a }
+    elim (turn P t a) [
+      | stops ending ↦ record { ending = ending; steps = 0; multipliers = a }
+      | continues b ↦ record { ending = Spent; steps = 0; multipliers = a }
     ]
 run P t (suc limit) a =
-    elim (next P t a) [
-      | ends e ↦ record { ending = e; steps = 0; multipliers = a }
-      | goesOn b ↦ oneStepMore (run P t limit b)
+    elim (turn P t a) [
+      | stops e ↦ record { ending = e; steps = 0; multipliers = a }
+      | continues b ↦ oneStepMore (run P t limit b)
     ]
 
 -- "Start with all multipliers 0 and 0 steps."
 abbrev pub zeros : ℕ → List ℕ
 zeros n = replicate n 0
 
-abbrev pub training : Problem → ℕ → ℕ → Outcome
-training P t budget = run P t budget (zeros (P .count))
+abbrev pub runFromZeros : Problem → ℕ → ℕ → Outcome
+runFromZeros P t budget = run P t budget (zeros (P .count))

@@ -3,11 +3,11 @@
 
 ghost use mathlib.Core.Path.{_≡_};
 ghost use Rattle.training_file.specs.Parameters.{Ranges};
-ghost use Rattle.dual_problem.specs.Items.{problemOf};
+ghost use Rattle.dual_problem.specs.FileProblem.{problemOf};
 ghost use Rattle.thresholds.specs.Extremes.{extremesIn};
 ghost use Rattle.working_pair.specs.State.{State};
 ghost use Rattle.smo.specs.Run.{decision};
-ghost use Rattle.smo.specs.Answer.{decisionEnding, runFrom, trainedWith};
+ghost use Rattle.smo.specs.Answers.{decisionEnding, runFrom, trainedWith};
 use super::ending::Ending;
 use smo_step::step::take_step;
 use thresholds::extremes::Extremes;

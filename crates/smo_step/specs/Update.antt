@@ -14,7 +14,7 @@ use Rattle.training_file.specs.Item.{itemIn}
 use Rattle.dual_problem.specs.Size.{gradientMost}
 use Rattle.dual_problem.specs.Kernel.{kernelBetween}
 use Rattle.dual_problem.specs.Problem.{Problem, gradient, at}
-use Rattle.dual_problem.specs.Items.{Listed}
+use Rattle.dual_problem.specs.FileProblem.{Listed}
 use Rattle.working_pair.specs.Step.{fall, rise, moved, amount}
 
 -- the multipliers after a step of the pair (i, j)

@@ -8,7 +8,7 @@ ghost use Rattle.training_file.specs.Parameters.{Ranges, ceilingMost};
 ghost use Rattle.reading.specs.Reading.{reading};
 ghost use Rattle.reading.specs.Calls.{itemsIn};
 ghost use Rattle.dual_problem.specs.Size.{gradientMost, kernelMost, termMost};
-ghost use Rattle.dual_problem.specs.Items.{problemOf};
+ghost use Rattle.dual_problem.specs.FileProblem.{problemOf};
 ghost use Rattle.working_pair.specs.Step.{Candidate, movedPair, raised, rise};
 ghost use Rattle.working_pair.specs.State.{State};
 ghost use Rattle.smo_step.specs.Update.{stepped, steppedGradient, shifted, updated, Movable, Updatable};

@@ -9,7 +9,7 @@ use lib.Signed.{ltZ}
 use Rattle.integers.specs.Extremum.{argmin, argmax}
 use Rattle.training_file.specs.declared.parameters.Parameters.{Parameters}
 use Rattle.dual_problem.specs.Problem.{Problem, up, low, bLow, bUp, at}
-use Rattle.dual_problem.specs.Items.{problemOf}
+use Rattle.dual_problem.specs.FileProblem.{problemOf}
 use Rattle.thresholds.specs.declared.extremes.Best.{Best}
 use Rattle.thresholds.specs.declared.extremes.Best.the-variants.{Nothing, At}
 use Rattle.thresholds.specs.declared.extremes.Extremes.{Extremes}

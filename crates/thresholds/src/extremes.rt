@@ -5,12 +5,11 @@ ghost use Prim.Native.Nat.{_≤_, _<_};
 ghost use lib.ListN.{length};
 ghost use Rattle.reading.specs.Calls.{Tabled};
 ghost use Rattle.dual_problem.specs.Problem.{inUp, at};
-ghost use Rattle.dual_problem.specs.Items.{Listed, MultipliersListed, problemOf};
+ghost use Rattle.dual_problem.specs.FileProblem.{Listed, MultipliersListed, problemOf};
 ghost use Rattle.thresholds.specs.Extremes.{bestBeside, bestValue, extremesIn, setsOf, thresholdsOf};
 use dual_problem::gradient::fill_gradient;
 use dual_problem::label::ceiling;
 use reading::reader::fetch_label;
-use training_file::item::Item;
 use training_file::item::Label;
 use training_file::parameters::Parameters;
 
@@ -136,7 +135,7 @@ pub fn find_thresholds(
     requires { ⌜ MultipliersListed (now file) (now order) count parameters (now multipliers) ⌝ }
     ensures { λ r. ⌜ r ≡ thresholdsOf (problemOf (now (file .entry)) parameters) (at (now (multipliers .entry))) ⌝ }
 {
-    let mut gradient = [0i64; Item::MAX_COUNT];
+    let mut gradient = [0i64; Parameters::MAX_RECORDS];
     fill_gradient(file, order, count, parameters, multipliers, &mut gradient);
     let found = find_extremes(file, order, count, parameters, multipliers, &gradient);
     let low = found.low;

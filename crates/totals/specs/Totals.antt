@@ -5,8 +5,8 @@ use Prim.Native.Nat.{ℕ, zero, suc, _+_}
 use lib.Dec.{ltb}
 use Rattle.training_file.specs.declared.item.Label.{Label}
 use Rattle.training_file.specs.declared.item.Label.the-variants.{LookedUp, PassedOver}
-use Rattle.totals.specs.declared.totals.Shown.{Shown}
-use Rattle.totals.specs.declared.totals.Totals.{Totals}
+use Rattle.totals.specs.declared.sums.Shown.{Shown}
+use Rattle.totals.specs.declared.sums.Totals.{Totals}
 
 -- 1 for a multiplier above 0, otherwise 0
 abbrev pub oneAboveZero : ℕ → ℕ

@@ -9,8 +9,8 @@ ghost use Rattle.train.specs.Input.{FitsBuffer, inputOf};
 use libc::STDERR_FILENO;
 use libc::STDIN_FILENO;
 use libc::STDOUT_FILENO;
-use training_file::item::Item;
 use training_file::layout;
+use training_file::parameters::Parameters;
 
 // What standard input gave: so many bytes, or an error.
 pub enum Input {
@@ -60,7 +60,7 @@ fn read_input(buffer: &mut [u8]) -> Input
 
 // A place more than the longest file that is accepted: a file that fills them all is longer than any that is accepted, and is refused with
 // 1 for its length, whatever bytes follow. So no further byte has to be read.
-const PLACES: usize = layout::HEADER_LENGTH + layout::RECORD_LENGTH * Item::MAX_COUNT + 1;
+const PLACES: usize = layout::HEADER_LENGTH + layout::RECORD_LENGTH * Parameters::MAX_RECORDS + 1;
 
 fn main() {
     let mut file = [0u8; PLACES];

@@ -16,13 +16,13 @@ use Rattle.training_file.specs.Refusal.{noRefusal, refusal}
 use Rattle.reading.specs.Reading.{Reading, refused, accepted, reading}
 use Rattle.reading.specs.Calls.{fileFirst}
 use Rattle.dual_problem.specs.Problem.{BoundedDistance, Problem, gradient, problem, at}
-use Rattle.dual_problem.specs.Items.{problemOf}
+use Rattle.dual_problem.specs.FileProblem.{problemOf}
 use Rattle.working_pair.specs.Move.{NoMoveLowers}
 use Rattle.smo.specs.declared.ending.Ending.the-variants.{Stuck}
 use Rattle.smo.specs.declared.run.Trained.{Trained}
-use Rattle.smo.specs.Run.{Outcome, training}
-use Rattle.smo.specs.Run.Meaning.{GapPasses, Means}
-use Rattle.smo.specs.Answer.{RunLeft, leftBy, trainedOf}
+use Rattle.smo.specs.Run.{Outcome, runFromZeros}
+use Rattle.smo.specs.Run.Meaning.{GapPasses, EndingMeans}
+use Rattle.smo.specs.Answers.{RunLeft, leftBy, trainedOf}
 use Rattle.training.specs.declared.train.Training.{Training}
 use Rattle.training.specs.declared.train.Training.the-variants.{Refused, Ended}
 
@@ -49,7 +49,7 @@ endedWith P o a g =
 abbrev pub trainItems : Parameters → List Item → List ℕ → List ℤ → TrainingLeft
 trainItems p items a g =
     cond (leb (length items) (length a) && leb (length items) (length g))
-    (endedWith (problem p items) (training (problem p items) (p .tolerance) (p .budget)) a g)
+    (endedWith (problem p items) (runFromZeros (problem p items) (p .tolerance) (p .budget)) a g)
     (unchanged (refusal 6) a g)
 
 -- any file, with the lists as they are lent: refusals 1 to 5 and 16 are the file's
@@ -64,7 +64,7 @@ trainingRefusal (Ended result) = noRefusal
 -- for the code: what a run leaves on the items of a file that was read, with the outcome's multipliers in the first n places of their list
 abbrev pub trainFrom : List ℕ → Parameters → ℕ → List ℕ → List ℤ → RunLeft
 trainFrom file p n a g =
-    let o = training (problemOf file p) (p .tolerance) (p .budget) in
+    let o = runFromZeros (problemOf file p) (p .tolerance) (p .budget) in
     leftBy (problemOf file p) n o (written n (at (o .multipliers)) a) g
 
 -- Demand 3, of the result and the multipliers left: they are feasible and no others, on this grid or on a finer one, beat them by more
@@ -73,7 +73,7 @@ trainFrom file p n a g =
 pub record ResultQuality (p : Parameters) (P : Problem) (result : Trained) (a : List ℕ) : Type 0 where
   pub bounded : BoundedDistance P (result .lower) (result .upper) (at a)
   pub in-budget : result .steps ≤ p .budget
-  pub means : Means P (p .tolerance) (p .budget) (result .steps) (result .lower) (result .upper) a (result .ending)
+  pub means : EndingMeans P (p .tolerance) (p .budget) (result .steps) (result .lower) (result .upper) a (result .ending)
   pub stuck-exactly : (result .ending ≡ Stuck) ↔ (GapPasses (p .tolerance) (result .lower) (result .upper) × NoMoveLowers P (at a))
 
 -- the same of the answer to any file, and of the lent list as training leaves it

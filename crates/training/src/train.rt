@@ -6,14 +6,13 @@ ghost use lib.ListN.{length};
 ghost use Rattle.integers.specs.Written.{written};
 ghost use Rattle.training_file.specs.Parameters.{Ranges};
 ghost use Rattle.reading.specs.Reading.{reading};
-ghost use Rattle.dual_problem.specs.Items.{Listed};
+ghost use Rattle.dual_problem.specs.FileProblem.{Listed};
 ghost use Rattle.training.specs.Train.{TrainingQuality, trainFile, trainFrom, trainingRefusal};
 use dual_problem::gradient::fill_gradient;
 use reading::reader;
 use reading::reader::FileAnswer;
 use smo::run::Trained;
 use smo::run::run;
-use training_file::item::Item;
 use training_file::parameters::Parameters;
 use training_file::refusal::Refusal;
 
@@ -81,7 +80,7 @@ pub fn train(file: &[u8], multipliers: &mut [u32], gradient: &mut [i64]) -> Trai
         ≡ trainFile (now (file .entry)) (now (multipliers .entry)) (now (gradient .entry)) ⌝ }
     ensures quality { λ r. ⌜ TrainingQuality (reading (now (file .entry))) r (now (multipliers .exit)) ⌝ }
 {
-    let mut order = [0u16; Item::MAX_COUNT];
+    let mut order = [0u16; Parameters::MAX_RECORDS];
     let answer = reader::order(file, &mut order);
     let FileAnswer::Accepted(parameters, count) = answer else {
         return Training::Refused(answer.refusal());

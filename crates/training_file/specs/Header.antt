@@ -6,7 +6,7 @@ use Prim.Native.Nat.{ℕ, _+_, _*_, _≤_}
 use lib.Dec.{leb, eqb}
 use lib.ListN.{length}
 use Rattle.training_file.specs.declared.parameters.Parameters.{Parameters}
-use Rattle.training_file.specs.Layout.{ceilingUnits, featuresInUse, firstRecord, gridUnits, kernelByte, recordsStored, secondUnits, spare, stepBudget, toleranceUnits}
+use Rattle.training_file.specs.Layout.{ceilingUnits, featuresInUse, firstRecord, gridUnits, kernelByte, recordsStored, secondCeilingUnits, spare, stepBudget, toleranceUnits}
 use Rattle.training_file.specs.Parameters.{kernelAllowed, kernelOfByte, parametersAllowed, recordsMost}
 
 -- refusal 1: "under 32 bytes, m over 256, or a length other than 32 + 20 × m"
@@ -21,7 +21,7 @@ parametersOf file =
       kernel = kernelOfByte (kernelByte file);
       grid = gridUnits file;
       ceiling = ceilingUnits file;
-      second = secondUnits file;
+      «second_ceiling» = secondCeilingUnits file;
       tolerance = toleranceUnits file;
       budget = stepBudget file;
     }

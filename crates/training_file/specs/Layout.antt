@@ -71,8 +71,8 @@ abbrev pub stepBudget : List ℕ → ℕ
 stepBudget file = le4 file 24
 
 -- "the ceiling for label −1" (document 02, request (f))
-abbrev pub secondUnits : List ℕ → ℕ
-secondUnits file = le4 file 28
+abbrev pub secondCeilingUnits : List ℕ → ℕ
+secondCeilingUnits file = le4 file 28
 
 -- ---- "Then come m records of 20 bytes, numbered from 1"
 

@@ -46,14 +46,14 @@ byteOfKernel Overlap = 2
 
 -- both ceilings, each within its range
 abbrev pub ceilingsAllowed : ℕ → ℕ → Bool
-ceilingsAllowed ceiling second = within 1 ceilingMost ceiling && within 0 ceilingMost second
+ceilingsAllowed ceiling secondCeiling = within 1 ceilingMost ceiling && within 0 ceilingMost secondCeiling
 
 -- d ("1 to 16", the features that an item has), S, both ceilings, t and the step budget, each within its range
 unfoldable pub parametersAllowed : Parameters → Bool
 parametersAllowed p =
     within 1 featureCount (p .used)
     && within 1 gridMost (p .grid)
-    && ceilingsAllowed (p .ceiling) (p .second)
+    && ceilingsAllowed (p .ceiling) (p .«second_ceiling»)
     && within 0 toleranceMost (p .tolerance)
     && within 0 budgetMost (p .budget)
 
@@ -65,6 +65,6 @@ pub record Ranges (p : Parameters) : Type 0 where
   pub grid-greatest : p .grid ≤ gridMost
   pub ceiling-least : 1 ≤ p .ceiling
   pub ceiling-greatest : p .ceiling ≤ ceilingMost
-  pub second-greatest : p .second ≤ ceilingMost
+  pub second-ceiling-greatest : p .«second_ceiling» ≤ ceilingMost
   pub tolerance-greatest : p .tolerance ≤ toleranceMost
   pub budget-greatest : p .budget ≤ budgetMost

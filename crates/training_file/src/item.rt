@@ -91,7 +91,7 @@ impl Label {
 
 // The features come first, so that a copy of an item moves all sixteen as one block and what is read of them next need not wait for two.
 pub struct Item {
-    pub features: [i8; Item::FEATURES],
+    pub features: [i8; Item::FEATURE_COUNT],
     pub label: Label,
 }
 
@@ -103,10 +103,8 @@ pub struct ItemAnswer {
 }
 
 impl Item {
-    // How many records a file stores at most, on the chain or off it.
-    pub const MAX_COUNT: usize = 256;
     // How many features an item has, in use or not.
-    pub const FEATURES: usize = 16;
+    pub const FEATURE_COUNT: usize = 16;
 
     pub const MIN_FEATURE: i8 = -127;
 
@@ -124,11 +122,11 @@ impl Item {
     }
 
     // Whether the features past the first `used` are 0.
-    fn zero_past(features: [i8; Item::FEATURES], used: usize) -> bool
+    fn zero_past(features: [i8; Item::FEATURE_COUNT], used: usize) -> bool
         ensures { λ r. ⌜ r ≡ zeroPast used features ⌝ }
     {
         let mut i = used;
-        while i < Item::FEATURES {
+        while i < Item::FEATURE_COUNT {
             if features[i] != 0 {
                 return false;
             }
@@ -138,14 +136,14 @@ impl Item {
     }
 
     // Whether each feature is within its range, and those past the first `used` are 0.
-    fn allows_all(features: [i8; Item::FEATURES], used: usize) -> bool
+    fn allows_all(features: [i8; Item::FEATURE_COUNT], used: usize) -> bool
         ensures { λ r. ⌜ r ≡ featuresAllowed used features ⌝ }
     {
         if !Item::zero_past(features, used) {
             return false;
         }
         let mut i = 0;
-        while i < Item::FEATURES {
+        while i < Item::FEATURE_COUNT {
             if !Item::allows(features[i]) {
                 return false;
             }
@@ -155,7 +153,7 @@ impl Item {
     }
 
     // The item of a label's byte and features of which the first `used` are in use, judged.
-    pub fn new(label: u8, features: [i8; Item::FEATURES], used: usize) -> ItemAnswer
+    pub fn new(label: u8, features: [i8; Item::FEATURE_COUNT], used: usize) -> ItemAnswer
         ensures { λ r. ⌜ r ≡ itemAnswer used label features ⌝ }
     {
         ItemAnswer {

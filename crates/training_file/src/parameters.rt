@@ -75,7 +75,7 @@ pub struct Parameters {
     // c, the ceiling of label +1, in grid units.
     pub ceiling: u32,
     // The ceiling of label −1, as the header has it: 0 means the same as c.
-    pub second: u32,
+    pub second_ceiling: u32,
     // t, in grid units.
     pub tolerance: u64,
     // How many steps training may take.
@@ -83,9 +83,12 @@ pub struct Parameters {
 }
 
 impl Parameters {
+    // How many records a file stores at most, on the chain or off it.
+    pub const MAX_RECORDS: usize = 256;
+
     pub const MIN_USED: usize = 1;
 
-    pub const MAX_USED: usize = Item::FEATURES;
+    pub const MAX_USED: usize = Item::FEATURE_COUNT;
 
     pub const MIN_GRID: u32 = 1;
 
@@ -95,9 +98,9 @@ impl Parameters {
 
     pub const MAX_CEILING: u32 = 65_536;
 
-    pub const MIN_SECOND: u32 = 0;
+    pub const MIN_SECOND_CEILING: u32 = 0;
 
-    pub const MAX_SECOND: u32 = Parameters::MAX_CEILING;
+    pub const MAX_SECOND_CEILING: u32 = Parameters::MAX_CEILING;
 
     pub const MIN_TOLERANCE: u64 = 0;
 
@@ -108,8 +111,8 @@ impl Parameters {
     pub const MAX_BUDGET: u32 = 1_000_000;
 
     // Whether both ceilings are within their ranges.
-    fn ceilings_within(ceiling: u32, second: u32) -> bool
-        ensures { λ r. ⌜ r ≡ ceilingsAllowed ceiling second ⌝ }
+    fn ceilings_within(ceiling: u32, second_ceiling: u32) -> bool
+        ensures { λ r. ⌜ r ≡ ceilingsAllowed ceiling «second_ceiling» ⌝ }
     {
         if !within(
             Parameters::MIN_CEILING as u64,
@@ -119,9 +122,9 @@ impl Parameters {
             return false;
         }
         within(
-            Parameters::MIN_SECOND as u64,
-            Parameters::MAX_SECOND as u64,
-            second as u64,
+            Parameters::MIN_SECOND_CEILING as u64,
+            Parameters::MAX_SECOND_CEILING as u64,
+            second_ceiling as u64,
         )
     }
 
@@ -143,7 +146,7 @@ impl Parameters {
         ) {
             return false;
         }
-        if !Parameters::ceilings_within(self.ceiling, self.second) {
+        if !Parameters::ceilings_within(self.ceiling, self.second_ceiling) {
             return false;
         }
         if !within(

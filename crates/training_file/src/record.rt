@@ -37,19 +37,19 @@ pub fn feature_part(file: &[u8], number: usize) -> &[u8]
     ensures { λ r. ⌜ now r ≡ featureBytes (now (file .entry)) number ⌝ }
 {
     let from = start(number) + layout::FEATURES;
-    let to = from + Item::FEATURES;
+    let to = from + Item::FEATURE_COUNT;
     &file[from..to]
 }
 
 // The record's sixteen features.
-fn features(file: &[u8], number: usize) -> [i8; Item::FEATURES]
+fn features(file: &[u8], number: usize) -> [i8; Item::FEATURE_COUNT]
     requires { ⌜ Stored (now file) number ⌝ }
     ensures { λ r. ⌜ r ≡ featuresAt (now (file .entry)) number ⌝ }
 {
     let part = feature_part(file, number);
-    let mut features = [0i8; Item::FEATURES];
+    let mut features = [0i8; Item::FEATURE_COUNT];
     let mut i = 0;
-    while i < Item::FEATURES {
+    while i < Item::FEATURE_COUNT {
         features[i] = signed_byte(part[i]);
         i += 1;
     }
@@ -66,7 +66,7 @@ fn read_item(file: &[u8], number: usize, used: usize) -> ItemAnswer
 }
 
 // The label of a record on the chain whose bytes are all allowed.
-pub fn judge(file: &[u8], number: usize, used: usize) -> LabelAnswer
+pub fn judge_record(file: &[u8], number: usize, used: usize) -> LabelAnswer
     requires { ⌜ Stored (now file) number ⌝ }
     ensures { λ r. ⌜ r ≡ recordAnswer used (now (file .entry)) number ⌝ }
 {
@@ -83,7 +83,7 @@ pub fn judge(file: &[u8], number: usize, used: usize) -> LabelAnswer
 }
 
 // The label of a record that was judged.
-pub fn fetch_label(file: &[u8], number: usize) -> Label
+pub fn label_at(file: &[u8], number: usize) -> Label
     requires { ⌜ Stored (now file) number ⌝ }
     ensures { λ r. ⌜ r ≡ labelAt (now (file .entry)) number ⌝ }
 {
@@ -91,9 +91,9 @@ pub fn fetch_label(file: &[u8], number: usize) -> Label
 }
 
 // The item of a record that was judged. Nobody asks here whether it is allowed, and the compiler leaves that out.
-pub fn fetch(file: &[u8], number: usize) -> Item
+pub fn item_at(file: &[u8], number: usize) -> Item
     requires { ⌜ Stored (now file) number ⌝ }
     ensures { λ r. ⌜ r ≡ itemAt (now (file .entry)) number ⌝ }
 {
-    read_item(file, number, Item::FEATURES).item
+    read_item(file, number, Item::FEATURE_COUNT).item
 }

@@ -13,7 +13,7 @@ use Rattle.training_file.specs.Item.{itemIn}
 use Rattle.reading.specs.Reading.{reading}
 use Rattle.reading.specs.Calls.{itemsIn}
 use Rattle.dual_problem.specs.Problem.{Problem, up, at}
-use Rattle.dual_problem.specs.Items.{problemOf}
+use Rattle.dual_problem.specs.FileProblem.{problemOf}
 use Rattle.working_pair.specs.declared.pair.Pair.{Pair}
 use Rattle.working_pair.specs.declared.pair.Pair.the-variants as pair
 use Rattle.working_pair.specs.declared.pair.Partner.{Partner}

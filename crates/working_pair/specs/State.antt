@@ -6,7 +6,7 @@ use lib.IntN.{ℤ, pos}
 use lib.ListN.{length, getD}
 use Rattle.training_file.specs.declared.parameters.Parameters.{Parameters}
 use Rattle.dual_problem.specs.Problem.{Feasible, gradient, at}
-use Rattle.dual_problem.specs.Items.{MultipliersListed, problemOf}
+use Rattle.dual_problem.specs.FileProblem.{MultipliersListed, problemOf}
 
 pub record State (file order : List ℕ) (n : ℕ) (p : Parameters) (a : List ℕ) (g : List ℤ) : Type 0 where
   pub listed : MultipliersListed file order n p a

@@ -2,7 +2,7 @@
 
 ghost use mathlib.Core.Path.{_≡_};
 ghost use Prim.Native.Nat.{_<_};
-ghost use Rattle.dual_problem.specs.Items.{problemOf};
+ghost use Rattle.dual_problem.specs.FileProblem.{problemOf};
 ghost use Rattle.thresholds.specs.Extremes.{extremesIn};
 ghost use Rattle.working_pair.specs.Step.{firstCandidate, workingPair};
 ghost use Rattle.working_pair.specs.State.{State};

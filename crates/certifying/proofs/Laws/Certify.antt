@@ -8,7 +8,7 @@ use Rattle.reading.specs.Reading.{accepted, reading}
 use Rattle.reading.proofs.Laws.Calls.{first-either}
 use Rattle.dual_problem.specs.Problem.{problem, at}
 use Rattle.dual_problem.proofs.Laws.Problem.{problem-gram}
-use Rattle.dual_problem.proofs.Laws.Items.Read.{features-in-range, labels-present}
+use Rattle.dual_problem.proofs.Laws.FileProblem.Read.{features-in-range, labels-present}
 use Rattle.dual_problem.proofs.Laws.Problem.Distance.{bounded-distance}
 use Rattle.certifying.specs.declared.multipliers.Judgement.{Judgement}
 use Rattle.certifying.specs.declared.multipliers.Judgement.the-variants as judged

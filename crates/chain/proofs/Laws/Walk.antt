@@ -13,7 +13,7 @@ use lib.Seq.{getD-append-seam, getD-take, length-take-le, take-length, take-suc}
 use borrow.Author.Tests.{ltb-true, ltb-false, leb-true, le-ltb, lt-ltb, le-leb, lt-leb, ne-eqb, eqb-true, eqb-false, not-true}
 use Rattle.integers.specs.Member.{member}
 use Rattle.integers.proofs.Laws.Member.{member-false, no-member}
-use Rattle.integers.proofs.Laws.Test.{&&-both, &&-false-right, clash, not-false-true, not-true-false}
+use Rattle.integers.proofs.Laws.Truth.{&&-both, &&-false-right, clash, not-false-true, not-true-false}
 use Rattle.chain.specs.Walk.{Walk, Walked, broken, comesTo, ends, goesOn, lastOf, ledTo, recordsMet}
 
 -- ---- the pigeonhole principle

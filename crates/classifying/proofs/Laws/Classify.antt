@@ -11,7 +11,7 @@ use lib.IntN.{ℤ, pos, negsuc, natAbs, _+ℤ_, _-ℤ_, _*ℤ_}
 use lib.ListN.{length, getD, List·getD-eq-default}
 use Rattle.integers.specs.Zero.{isZero}
 use Rattle.integers.specs.Places.{all}
-use Rattle.integers.proofs.Laws.Test.{chose-either}
+use Rattle.integers.proofs.Laws.Truth.{chose-either}
 use Rattle.integers.proofs.Laws.Solver.{con, ⊝_, _⊕_, _⊗_, _⊖_, x₀, solve}
 use Rattle.integers.proofs.Laws.Linear.{integer}
 use Rattle.integers.proofs.Laws.Bounds.{+ℤ-bound, -ℤ-bound, *ℤ-bound}
@@ -26,9 +26,9 @@ use Rattle.dual_problem.specs.Kernel.{kernelBetween}
 use Rattle.dual_problem.proofs.Laws.Kernel.{kernelValue-comm, kernelValue-cong}
 use Rattle.dual_problem.specs.Problem.{LabelsPresent, problem, at}
 use Rattle.dual_problem.proofs.Laws.Problem.Zeros.{b-low-zeros, b-up-zeros, zeros-weighed}
-use Rattle.dual_problem.specs.Items.{weighedSum}
+use Rattle.dual_problem.specs.FileProblem.{weighedSum}
 use Rattle.dual_problem.specs.Size.{gradientMost, scoreMost, weighedMost}
-use Rattle.dual_problem.proofs.Laws.Items.Read.{labels-present}
+use Rattle.dual_problem.proofs.Laws.FileProblem.Read.{labels-present}
 use Rattle.thresholds.specs.declared.extremes.Thresholds.{Thresholds}
 use Rattle.certifying.specs.declared.multipliers.Judgement.{Judgement}
 use Rattle.certifying.specs.declared.multipliers.Judgement.the-variants as judged
@@ -38,7 +38,7 @@ use Rattle.classifying.specs.declared.classify.Class.{Class}
 use Rattle.classifying.specs.declared.classify.Class.the-variants.{LookedUp, PassedOver, Undecided}
 use Rattle.classifying.specs.declared.classify.Classified.{Classified}
 use Rattle.classifying.specs.declared.classify.Classified.the-variants.{Refused, Is}
-use Rattle.classifying.specs.Classify.{Means, UndecidedUnlessRefused, SameFeatures, classOf, classifyItems, classifyJudged, classifying, score, scoreWith, wordAllowed, wordKernel}
+use Rattle.classifying.specs.Classify.{ClassMeans, UndecidedUnlessRefused, SameFeatures, classOf, classifyItems, classifyJudged, classifying, score, scoreWith, wordAllowed, wordKernel}
 
 -- ---- the kernel
 -- K of an item and the word, either way round
@@ -92,12 +92,12 @@ module _ (p : Parameters) (items : List Item) (a : ℕ → ℕ) (thresholds : Th
       (twice, both, -ℤ-bound (pos 2 *ℤ whole) (thresholds .lower +ℤ thresholds .upper) twice both)
 
 -- ---- the class of a score
-class-means : (value : ℤ) → Means (classOf value) value
+class-means : (value : ℤ) → ClassMeans (classOf value) value
 class-means (pos (suc n)) = omega (arith, integer)
 class-means (pos zero) = refl
 class-means (negsuc n) = omega (arith, integer)
 
-means-class : (class : Class) (value : ℤ) → Means class value → classOf value ≡ class
+means-class : (class : Class) (value : ℤ) → ClassMeans class value → classOf value ≡ class
 means-class LookedUp (pos (suc n)) h = refl
 means-class LookedUp (pos zero) h = absurd (omega (arith, integer))
 means-class LookedUp (negsuc n) h = absurd (omega (arith, integer))
@@ -106,8 +106,8 @@ means-class PassedOver (negsuc n) h = refl
 means-class Undecided value h = ap classOf h
 
 -- a score has a class exactly where it is as the class means
-pub class-exactly : (class : Class) (value : ℤ) → (classOf value ≡ class) ↔ Means class value
-class-exactly class value = (λ e. subst (λ k. Means k value) e (class-means value), means-class class value)
+pub class-exactly : (class : Class) (value : ℤ) → (classOf value ≡ class) ↔ ClassMeans class value
+class-exactly class value = (λ e. subst (λ k. ClassMeans k value) e (class-means value), means-class class value)
 
 -- ---- the answer, by the stage that gives it
 module _ (p : Parameters) (items : List Item) (a : List ℕ) (word : List ℤ) where

@@ -11,7 +11,7 @@ use native.Mathlib.Nat.{le-refl, le-antisymm, le-of-suc-le-suc, eq-or-lt-of-le}
 use native.Mathlib.Omega.{arith, by-contra}
 use lib.IntN.{ℤ}
 use lib.Signed.{ltZ, _≤ℤ_, _<ℤ_, ≤ℤ-refl}
-use Rattle.integers.proofs.Laws.Test.{clash, not-true-false, not-false-true}
+use Rattle.integers.proofs.Laws.Truth.{clash, not-true-false, not-false-true}
 use Rattle.integers.proofs.Laws.Linear.{integer}
 use Rattle.integers.proofs.Laws.Order.{ltZ-true, ltZ-false, <ℤ-ltZ, ≤ℤ-ltZ}
 use Rattle.integers.specs.Extremum.{beside, extreme, valueAt, least, greatest}

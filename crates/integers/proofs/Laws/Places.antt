@@ -5,7 +5,7 @@ use mathlib.Core.Bool.{Bool, true, false, _&&_, and-true, and-false}
 use Prim.Native.Nat.{ℕ, zero, suc, _+_, _≤_, _<_}
 use native.Mathlib.Nat.{add-zero, add-suc, le-refl, le-of-suc-le-suc, eq-or-lt-of-le}
 use native.Mathlib.Omega.{arith}
-use Rattle.integers.proofs.Laws.Test.{&&-true, &&-left, &&-right}
+use Rattle.integers.proofs.Laws.Truth.{&&-true, &&-left, &&-right}
 use Rattle.integers.specs.Places.{all}
 
 module _ (p : ℕ → Bool) where

@@ -12,7 +12,7 @@ use lib.Signed.{leZ, mag, nonNeg}
 use mir.Facts.{toZ-ofZ}
 use mir.Syntax.{Width, w8, w16, w32, w64, w128}
 use mir.Val.{Fits, SFits, bits, hbits, toZ, ofZ}
-use Rattle.integers.proofs.Laws.Test.{clash}
+use Rattle.integers.proofs.Laws.Truth.{clash}
 use Rattle.integers.proofs.Laws.Bounds.{fits-width, reads-back}
 
 -- what is within half of a width is within the width

@@ -9,7 +9,7 @@ use lib.Pow.{pow-pos}
 use mir.Facts.{toZ-ofZ, toZ-pos}
 use mir.Syntax.{Width}
 use mir.Val.{SFits, hbits, toZ, ofZ}
-use Rattle.integers.proofs.Laws.Test.{not-true-false}
+use Rattle.integers.proofs.Laws.Truth.{not-true-false}
 use Rattle.integers.specs.Zero.{isZero}
 
 pub is-zero-true : (z : ℤ) → isZero z ≡ true → z ≡ pos 0

@@ -11,8 +11,8 @@ use Rattle.smo.specs.declared.ending.Ending.the-variants.{Converged, Stuck, Spe
 use Rattle.smo.specs.declared.run.Trained.{Trained}
 use Rattle.text.specs.Decimal.{decimal}
 use Rattle.text.proofs.Laws.Decimal.{decimal-few, decimal-length, signed-length}
-use Rattle.totals.specs.declared.totals.Shown.{Shown}
-use Rattle.totals.specs.declared.totals.Totals.{Totals}
+use Rattle.totals.specs.declared.sums.Shown.{Shown}
+use Rattle.totals.specs.declared.sums.Totals.{Totals}
 use Rattle.totals.proofs.Laws.Totals.{totals-cong}
 use Rattle.training_file.specs.declared.refusal.Refusal.{Refusal}
 use Rattle.lines.specs.Lines.{endingText, field, itemLine, itemsWithTotal, joined, labelSign, recordField, refusalLine, resultLine, totalLine}

@@ -18,8 +18,8 @@ use Rattle.text.specs.Decimal.{decimal, value}
 use Rattle.text.proofs.Laws.Decimal.Meaning.{decimal-value}
 use Rattle.text.specs.Parts.{free, parts}
 use Rattle.text.proofs.Laws.Parts.{decimal-free, free-append, parts-first, parts-one, signed-free}
-use Rattle.totals.specs.declared.totals.Shown.{Shown}
-use Rattle.totals.specs.declared.totals.Totals.{Totals}
+use Rattle.totals.specs.declared.sums.Shown.{Shown}
+use Rattle.totals.specs.declared.sums.Totals.{Totals}
 use Rattle.totals.specs.Totals.{countAboveZero, oneAboveZero, share, sumOver, totals}
 use Rattle.totals.proofs.Laws.Totals.{count-most, sum-most}
 use Rattle.lines.specs.Lines.{endingText, field, itemLine, itemsWithTotal, joined, labelSign, recordField, refusalLine, refusedText, resultLine, signedField, totalLine, totalText}

@@ -9,7 +9,7 @@ use borrow.Author.Tests.{le-leb}
 use lib.Dec.{leb}
 use lib.IntN.{ℤ}
 use lib.ListN.{length, drop, getD, length-append}
-use Rattle.integers.proofs.Laws.Test.{&&-true}
+use Rattle.integers.proofs.Laws.Truth.{&&-true}
 use Rattle.integers.specs.Written.{written}
 use Rattle.integers.proofs.Laws.Written.{written-at}
 use Rattle.training_file.specs.declared.parameters.Parameters.{Parameters}
@@ -24,8 +24,8 @@ use Rattle.reading.proofs.Laws.Calls.{first-either}
 use Rattle.reading.proofs.Laws.Reading.Accepted.{accepted-ranges, items-counted, items-most, numbers-within}
 use Rattle.dual_problem.specs.Problem.{problem, at}
 use Rattle.dual_problem.proofs.Laws.Problem.Ceilings.{feasible-most}
-use Rattle.smo.specs.Run.{training}
-use Rattle.smo.specs.Answer.{trainedOf}
+use Rattle.smo.specs.Run.{runFromZeros}
+use Rattle.smo.specs.Answers.{trainedOf}
 use Rattle.training.specs.Train.{TrainingLeft, endedWith, unchanged, trainFile, trainItems}
 use Rattle.training.proofs.Laws.Train.{accepted-sound}
 use Rattle.totals.specs.Totals.{totals}
@@ -59,7 +59,7 @@ listing-trained file a g = first-either _ _ file (Prints a g) (λ why e h k. ref
     accepted-prints : (p : Parameters) (order : List ℕ) (items : List Item) → Prints a g (accepted p order items) (trainItems p items a g)
     accepted-prints p order items h k =
         let P = problem p items in
-        let o = training P (p .tolerance) (p .budget) in
+        let o = runFromZeros P (p .tolerance) (p .budget) in
         let e : leb (length items) (length a) && leb (length items) (length g) ≡ true = &&-true (le-leb _ _ h) (le-leb _ _ k) in
         (λ t. let left = cond (e t) (endedWith P o a g) (unchanged (refusal 6) a g) in listing (left .answer) order items (at (left .multipliers)))
         ∙ ap (λ lines. resultLine (trainedOf P o) ++ lines)
@@ -76,7 +76,7 @@ listing-fits file = by (reading file) refl
     by (accepted p order items) e =
         let a = accepted-is file p order items e in
         let P = problem p items in
-        let o = training P (p .tolerance) (p .budget) in
+        let o = runFromZeros P (p .tolerance) (p .budget) in
         let sound = accepted-sound file p order items e in
         let shown = shownAt order items (at (o .multipliers)) in
         let line : (i : ℕ) → i < length items → length (itemLine (shown i)) ≤ 14 =

@@ -9,7 +9,7 @@ use lib.IntN.{ℤ}
 use lib.ListN.{length}
 use Rattle.integers.specs.Member.{member}
 use Rattle.integers.specs.Zero.{isZero}
-use Rattle.integers.proofs.Laws.Test.{chose-either}
+use Rattle.integers.proofs.Laws.Truth.{chose-either}
 use Rattle.training_file.specs.declared.parameters.Parameters.{Parameters}
 use Rattle.training_file.specs.declared.item.Item.{Item}
 use Rattle.training_file.specs.Record.{every}

@@ -10,7 +10,7 @@ use Rattle.training_file.specs.declared.parameters.Parameters.{Parameters}
 use Rattle.training_file.specs.declared.item.Item.{Item}
 use Rattle.training_file.proofs.Laws.Header.{allowed-whole}
 use Rattle.chain.specs.Walk.{ends}
-use Rattle.chain.specs.Stages.{Chained, orderOf, recordsOf, tableWith}
+use Rattle.chain.specs.Answers.{Chained, orderOf, recordsOf, tableWith}
 use Rattle.reading.specs.declared.reader.FileAnswer.{FileAnswer}
 use Rattle.reading.specs.declared.reader.FileAnswer.the-variants as outcome
 use Rattle.reading.specs.Reading.{Reading, accepted, reading, refused}

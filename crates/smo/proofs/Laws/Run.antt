@@ -26,7 +26,7 @@ use Rattle.working_pair.proofs.Laws.Step.WorkingPair.{working-pair-sound}
 use Rattle.working_pair.proofs.Laws.Move.Stuck.{candidate-lowers, stuck-exactly}
 use Rattle.smo.specs.declared.ending.Ending.{Ending}
 use Rattle.smo.specs.declared.ending.Ending.the-variants.{Converged, Stuck, Spent}
-use Rattle.smo.specs.Run.{Next, ends, goesOn, next, Outcome, oneStepMore, run, training, zeros}
+use Rattle.smo.specs.Run.{Turn, stops, continues, turn, Outcome, oneStepMore, run, runFromZeros, zeros}
 use Rattle.smo.specs.Run.Meaning.{GapPasses, OutcomeGapPasses, OutcomeMeans, Sound, Steps, noStep, step, moreSteps}
 
 -- ---- no two endings are one
@@ -60,69 +60,69 @@ module _ (t : ℕ) (lower upper : ℤ) where
 module _ (P : Problem) (t : ℕ) where
   module _ (a : List ℕ) where
     -- by which tests training ends or goes on
-    pub next-converged : leZ (bLow P (at a)) (bUp P (at a) +ℤ pos (2 * t)) ≡ true → next P t a ≡ ends Converged
-    unfolding next
-    next-converged e = rw (e, next)
+    pub turn-converged : leZ (bLow P (at a)) (bUp P (at a) +ℤ pos (2 * t)) ≡ true → turn P t a ≡ stops Converged
+    unfolding turn
+    turn-converged e = rw (e, turn)
 
-    pub next-stuck : leZ (bLow P (at a)) (bUp P (at a) +ℤ pos (2 * t)) ≡ false → workingPair P a ≡ none → next P t a ≡ ends Stuck
-    unfolding next
-    next-stuck e f = rw (e, next) (rw f)
+    pub turn-stuck : leZ (bLow P (at a)) (bUp P (at a) +ℤ pos (2 * t)) ≡ false → workingPair P a ≡ none → turn P t a ≡ stops Stuck
+    unfolding turn
+    turn-stuck e f = rw (e, turn) (rw f)
 
-    pub next-moves : {i j : ℕ} → leZ (bLow P (at a)) (bUp P (at a) +ℤ pos (2 * t)) ≡ false → workingPair P a ≡ some (i, j) → next P t a ≡ goesOn (moved P a i j (amount P a i j))
-    unfolding next
-    next-moves e f = rw (e, next) (rw f)
+    pub turn-moves : {i j : ℕ} → leZ (bLow P (at a)) (bUp P (at a) +ℤ pos (2 * t)) ≡ false → workingPair P a ≡ some (i, j) → turn P t a ≡ continues (moved P a i j (amount P a i j))
+    unfolding turn
+    turn-moves e f = rw (e, turn) (rw f)
 
     -- what each answer says
-    View : Next → Type 0
-    View (ends Converged) = gap (bLow P (at a)) (bUp P (at a)) ≤ 2 * t
-    View (ends Stuck) = GapPasses t (bLow P (at a)) (bUp P (at a)) × (workingPair P a ≡ none)
-    View (ends Spent) = ⊥
-    View (goesOn b) = GapPasses t (bLow P (at a)) (bUp P (at a)) × (i : ℕ) × (j : ℕ) × Candidate P a i j × (b ≡ moved P a i j (amount P a i j))
+    View : Turn → Type 0
+    View (stops Converged) = gap (bLow P (at a)) (bUp P (at a)) ≤ 2 * t
+    View (stops Stuck) = GapPasses t (bLow P (at a)) (bUp P (at a)) × (workingPair P a ≡ none)
+    View (stops Spent) = ⊥
+    View (continues b) = GapPasses t (bLow P (at a)) (bUp P (at a)) × (i : ℕ) × (j : ℕ) × Candidate P a i j × (b ≡ moved P a i j (amount P a i j))
 
-    view : View (next P t a)
+    view : View (turn P t a)
     unfolding View
     view = by-gap (leZ (bLow P (at a)) (bUp P (at a) +ℤ pos (2 * t))) refl
       where
         passes : leZ (bLow P (at a)) (bUp P (at a) +ℤ pos (2 * t)) ≡ false → GapPasses t (bLow P (at a)) (bUp P (at a))
         passes e = gap-passes t (bLow P (at a)) (bUp P (at a)) .1 (leZ-false (bLow P (at a)) (bUp P (at a) +ℤ pos (2 * t)) e)
 
-        by-pair : leZ (bLow P (at a)) (bUp P (at a) +ℤ pos (2 * t)) ≡ false → (o : Option (ℕ × ℕ)) → workingPair P a ≡ o → View (next P t a)
-        by-pair e none f = subst View (sym (next-stuck e f)) (passes e, f)
-        by-pair e (some ij) f = subst View (sym (next-moves e f)) (passes e, ij .0, ij .1, working-pair-sound P a f, refl)
+        by-pair : leZ (bLow P (at a)) (bUp P (at a) +ℤ pos (2 * t)) ≡ false → (o : Option (ℕ × ℕ)) → workingPair P a ≡ o → View (turn P t a)
+        by-pair e none f = subst View (sym (turn-stuck e f)) (passes e, f)
+        by-pair e (some ij) f = subst View (sym (turn-moves e f)) (passes e, ij .0, ij .1, working-pair-sound P a f, refl)
 
-        by-gap : (b : Bool) → leZ (bLow P (at a)) (bUp P (at a) +ℤ pos (2 * t)) ≡ b → View (next P t a)
-        by-gap true e = subst View (sym (next-converged e)) (gap-within t (bLow P (at a)) (bUp P (at a)) .1 (leZ-true (bLow P (at a)) (bUp P (at a) +ℤ pos (2 * t)) e))
+        by-gap : (b : Bool) → leZ (bLow P (at a)) (bUp P (at a) +ℤ pos (2 * t)) ≡ b → View (turn P t a)
+        by-gap true e = subst View (sym (turn-converged e)) (gap-within t (bLow P (at a)) (bUp P (at a)) .1 (leZ-true (bLow P (at a)) (bUp P (at a) +ℤ pos (2 * t)) e))
         by-gap false e = by-pair e (workingPair P a) refl
 
   -- ---- the run, as a loop takes it: it ends at once, or at a limit of 0, or takes a step and has one less left
-  pub run-ends : (limit : ℕ) (a : List ℕ) {e : Ending} → next P t a ≡ ends e → run P t limit a ≡ record { ending = e; steps = 0; multipliers = a }
+  pub run-ends : (limit : ℕ) (a : List ℕ) {e : Ending} → turn P t a ≡ stops e → run P t limit a ≡ record { ending = e; steps = 0; multipliers = a }
   unfolding run
   run-ends zero a h = rw (h, run)
   run-ends (suc limit) a h = rw (h, run)
 
-  pub run-spent : (a : List ℕ) {b : List ℕ} → next P t a ≡ goesOn b → run P t 0 a ≡ record { ending = Spent; steps = 0; multipliers = a }
+  pub run-spent : (a : List ℕ) {b : List ℕ} → turn P t a ≡ continues b → run P t 0 a ≡ record { ending = Spent; steps = 0; multipliers = a }
   unfolding run
   run-spent a h = rw (h, run)
 
-  pub run-goes-on : (limit : ℕ) (a : List ℕ) {b : List ℕ} → next P t a ≡ goesOn b → run P t (suc limit) a ≡ oneStepMore (run P t limit b)
+  pub run-goes-on : (limit : ℕ) (a : List ℕ) {b : List ℕ} → turn P t a ≡ continues b → run P t (suc limit) a ≡ oneStepMore (run P t limit b)
   unfolding run
   run-goes-on limit a h = rw (h, run)
 
   -- what holds of the outcome of a run that ends at once, and is carried over a step, holds of every run's outcome
-  pub run-induction : (Q : ℕ → List ℕ → Outcome → Type 0) → ((limit : ℕ) (a : List ℕ) (e : Ending) → next P t a ≡ ends e → Q limit a (record { ending = e; steps = 0; multipliers = a }))
-      → ((a b : List ℕ) → next P t a ≡ goesOn b → Q 0 a (record { ending = Spent; steps = 0; multipliers = a }))
-      → ((limit : ℕ) (a b : List ℕ) → next P t a ≡ goesOn b → Q limit b (run P t limit b) → Q (suc limit) a (oneStepMore (run P t limit b)))
+  pub run-induction : (Q : ℕ → List ℕ → Outcome → Type 0) → ((limit : ℕ) (a : List ℕ) (e : Ending) → turn P t a ≡ stops e → Q limit a (record { ending = e; steps = 0; multipliers = a }))
+      → ((a b : List ℕ) → turn P t a ≡ continues b → Q 0 a (record { ending = Spent; steps = 0; multipliers = a }))
+      → ((limit : ℕ) (a b : List ℕ) → turn P t a ≡ continues b → Q limit b (run P t limit b) → Q (suc limit) a (oneStepMore (run P t limit b)))
       → (limit : ℕ) (a : List ℕ) → Q limit a (run P t limit a)
-  run-induction Q at-end at-limit at-step zero a = by-next (next P t a) refl
+  run-induction Q at-end at-limit at-step zero a = by-turn (turn P t a) refl
     where
-      by-next : (n : Next) → next P t a ≡ n → Q 0 a (run P t 0 a)
-      by-next (ends e) h = subst (Q 0 a) (sym (run-ends 0 a h)) (at-end 0 a e h)
-      by-next (goesOn b) h = subst (Q 0 a) (sym (run-spent a h)) (at-limit a b h)
-  run-induction Q at-end at-limit at-step (suc limit) a = by-next (next P t a) refl (run-induction Q at-end at-limit at-step limit)
+      by-turn : (n : Turn) → turn P t a ≡ n → Q 0 a (run P t 0 a)
+      by-turn (stops e) h = subst (Q 0 a) (sym (run-ends 0 a h)) (at-end 0 a e h)
+      by-turn (continues b) h = subst (Q 0 a) (sym (run-spent a h)) (at-limit a b h)
+  run-induction Q at-end at-limit at-step (suc limit) a = by-turn (turn P t a) refl (run-induction Q at-end at-limit at-step limit)
     where
-      by-next : (n : Next) → next P t a ≡ n → ((b : List ℕ) → Q limit b (run P t limit b)) → Q (suc limit) a (run P t (suc limit) a)
-      by-next (ends e) h ih = subst (Q (suc limit) a) (sym (run-ends (suc limit) a h)) (at-end (suc limit) a e h)
-      by-next (goesOn b) h ih = subst (Q (suc limit) a) (sym (run-goes-on limit a h)) (at-step limit a b h (ih b))
+      by-turn : (n : Turn) → turn P t a ≡ n → ((b : List ℕ) → Q limit b (run P t limit b)) → Q (suc limit) a (run P t (suc limit) a)
+      by-turn (stops e) h ih = subst (Q (suc limit) a) (sym (run-ends (suc limit) a h)) (at-end (suc limit) a e h)
+      by-turn (continues b) h ih = subst (Q (suc limit) a) (sym (run-goes-on limit a h)) (at-step limit a b h (ih b))
 
   -- ---- the steps counted are the moves made
   pub run-steps : (limit : ℕ) (a : List ℕ) → Steps P t a (run P t limit a .steps) (run P t limit a .multipliers)
@@ -134,7 +134,7 @@ module _ (P : Problem) (t : ℕ) where
 
   -- at the multipliers left training ends as the outcome says, or it would go on and all steps are taken
   Final : ℕ → Outcome → Type 0
-  Final limit o = (next P t (o .multipliers) ≡ ends (o .ending)) ⊎ ((o .ending ≡ Spent) × (o .steps ≡ limit) × (b : List ℕ) × (next P t (o .multipliers) ≡ goesOn b))
+  Final limit o = (turn P t (o .multipliers) ≡ stops (o .ending)) ⊎ ((o .ending ≡ Spent) × (o .steps ≡ limit) × (b : List ℕ) × (turn P t (o .multipliers) ≡ continues b))
 
   run-final : (limit : ℕ) (a : List ℕ) → Final limit (run P t limit a)
   unfolding Final
@@ -149,7 +149,7 @@ module _ (P : Problem) (t : ℕ) where
       ∙ (λ d. record { ending = run P t limit c .ending; steps = sym (suc-add k (run P t limit c .steps)) d; multipliers = run P t limit c .multipliers })
 
   -- no answer is "spent" before the limit is looked at
-  never-spent : (a : List ℕ) → ¬ (next P t a ≡ ends Spent)
+  never-spent : (a : List ℕ) → ¬ (turn P t a ≡ stops Spent)
   unfolding View
   never-spent a h = subst (View a) h (view a)
 
@@ -157,7 +157,7 @@ module _ (P : Problem) (t : ℕ) where
   pub run-cut-spent : (k limit : ℕ) (a : List ℕ) → run P t k a .ending ≡ Spent → run P t (k + limit) a ≡ moreSteps k (run P t limit (run P t k a .multipliers))
   unfolding Final
   run-cut-spent k limit a spent =
-      ⊎-elim (λ e. absurd (never-spent (run P t k a .multipliers) (subst (λ q. next P t (run P t k a .multipliers) ≡ ends q) spent e)))
+      ⊎-elim (λ e. absurd (never-spent (run P t k a .multipliers) (subst (λ q. turn P t (run P t k a .multipliers) ≡ stops q) spent e)))
       (λ r. run-after-steps (subst (λ n. Steps P t a n (run P t k a .multipliers)) (r .1) (run-steps k a)) limit) (run-final k a)
 
   -- .. and any other is the same with a higher one
@@ -168,7 +168,7 @@ module _ (P : Problem) (t : ℕ) where
       o : Outcome
       o = run P t k a
 
-      over : next P t (o .multipliers) ≡ ends (o .ending) → run P t (k + limit) a ≡ run P t k a
+      over : turn P t (o .multipliers) ≡ stops (o .ending) → run P t (k + limit) a ≡ run P t k a
       over e =
           let rest = k - o .steps + limit in
           let q : k + limit ≡ o .steps + rest = omega (arith, run-steps-limit k a) in
@@ -176,12 +176,12 @@ module _ (P : Problem) (t : ℕ) where
           ∙ (λ d. record { ending = o .ending; steps = add-zero (o .steps) d; multipliers = o .multipliers })
 
   -- ---- "A step is one move", of a pair that moves
-  pub step-moved : {a b : List ℕ} → next P t a ≡ goesOn b → (i : ℕ) × (j : ℕ) × Candidate P a i j × (b ≡ moved P a i j (amount P a i j))
+  pub step-moved : {a b : List ℕ} → turn P t a ≡ continues b → (i : ℕ) × (j : ℕ) × Candidate P a i j × (b ≡ moved P a i j (amount P a i j))
   unfolding View
   step-moved {a} h = let v = subst (View a) h (view a) in (v .1, v .2, v .3, v .4)
 
   -- ---- the list keeps its length
-  pub step-long : (a : List ℕ) {b : List ℕ} → next P t a ≡ goesOn b → P .count ≤ length a → P .count ≤ length b
+  pub step-long : (a : List ℕ) {b : List ℕ} → turn P t a ≡ continues b → P .count ≤ length a → P .count ≤ length b
   step-long a h long = let m = step-moved h in omega (arith, ap length (m .3), moved-length P a (m .0) (m .1) (amount P a (m .0) (m .1)))
 
   pub steps-length : {a b : List ℕ} {k : ℕ} → Steps P t a k b → length b ≡ length a
@@ -195,7 +195,7 @@ module _ (P : Problem) (t : ℕ) where
 
   module _ (gram : Gram (P .count) (P .kernel)) where
     -- ---- a step keeps the multipliers feasible, and lowers the objective by 1 at least; so k steps lower it by k
-    module _ (a : List ℕ) {b : List ℕ} (h : next P t a ≡ goesOn b) (long : P .count ≤ length a) where
+    module _ (a : List ℕ) {b : List ℕ} (h : turn P t a ≡ continues b) (long : P .count ≤ length a) where
       pub step-feasible : Feasible P (at a) → Feasible P (at b)
       step-feasible f =
           let (i, j, c, e) = step-moved h in
@@ -241,12 +241,12 @@ module _ (P : Problem) (t : ℕ) where
           o : Outcome
           o = run P t limit a
 
-          ended : (e : Ending) → View (o .multipliers) (ends e) → OutcomeMeans P t limit o e
+          ended : (e : Ending) → View (o .multipliers) (stops e) → OutcomeMeans P t limit o e
           ended Converged v = v
           ended Stuck v = (v .0, stuck-exactly P gram (o .multipliers) long-left run-feasible .0 (v .1))
           ended Spent v = absurd v
 
-          at-limit : (o .ending ≡ Spent) × (o .steps ≡ limit) × (b : List ℕ) × (next P t (o .multipliers) ≡ goesOn b) → OutcomeMeans P t limit o (o .ending)
+          at-limit : (o .ending ≡ Spent) × (o .steps ≡ limit) × (b : List ℕ) × (turn P t (o .multipliers) ≡ continues b) → OutcomeMeans P t limit o (o .ending)
           at-limit (spent, all, b, h) =
               let v = subst (View (o .multipliers)) h (view (o .multipliers)) in
               subst (OutcomeMeans P t limit o) (sym spent) (all, v .0, v .1, v .2, v .3)
@@ -292,10 +292,10 @@ pub zeros-length : (n : ℕ) → length (zeros n) ≡ n
 zeros-length n = length-replicate {A = ℕ} n 0
 
 -- what training leaves
-pub training-sound : (P : Problem) → Gram (P .count) (P .kernel) → LabelsPresent P → (t budget : ℕ) → Sound P t budget (training P t budget)
-training-sound P gram present t budget =
+pub run-from-zeros-sound : (P : Problem) → Gram (P .count) (P .kernel) → LabelsPresent P → (t budget : ℕ) → Sound P t budget (runFromZeros P t budget)
+run-from-zeros-sound P gram present t budget =
     run-sound P t gram budget (zeros (P .count)) (omega (arith, zeros-length (P .count)))
     (zeros-feasible P (at (zeros (P .count))) (λ i l. getD-replicate {A = ℕ} (P .count) i 0 0 l)) present
 
-pub training-length : (P : Problem) (t budget : ℕ) → length (training P t budget .multipliers) ≡ P .count
-training-length P t budget = run-length P t budget (zeros (P .count)) ∙ zeros-length (P .count)
+pub run-from-zeros-length : (P : Problem) (t budget : ℕ) → length (runFromZeros P t budget .multipliers) ≡ P .count
+run-from-zeros-length P t budget = run-length P t budget (zeros (P .count)) ∙ zeros-length (P .count)

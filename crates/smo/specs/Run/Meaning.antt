@@ -10,21 +10,21 @@ use Rattle.working_pair.specs.Step.{Candidate}
 use Rattle.working_pair.specs.Move.{NoMoveLowers}
 use Rattle.smo.specs.declared.ending.Ending.{Ending}
 use Rattle.smo.specs.declared.ending.Ending.the-variants.{Converged, Stuck, Spent}
-use Rattle.smo.specs.Run.{goesOn, next, Outcome}
+use Rattle.smo.specs.Run.{continues, turn, Outcome}
 
 -- Demand 3: the gap of the two thresholds answered "passes twice the tolerance"
 abbrev pub GapPasses : ℕ → ℤ → ℤ → Type 0
 GapPasses t lower upper = 2 * t < gap lower upper
 
 -- what an ending means, with the multipliers a left and the thresholds answered after so many steps of those allowed
-abbrev pub Means : Problem → ℕ → ℕ → ℕ → ℤ → ℤ → List ℕ → Ending → Type 0
-Means P t limit steps lower upper a Converged = gap lower upper ≤ 2 * t
-Means P t limit steps lower upper a Stuck = GapPasses t lower upper × NoMoveLowers P (at a)
-Means P t limit steps lower upper a Spent = (steps ≡ limit) × GapPasses t lower upper × (i : ℕ) × (j : ℕ) × Candidate P a i j
+abbrev pub EndingMeans : Problem → ℕ → ℕ → ℕ → ℤ → ℤ → List ℕ → Ending → Type 0
+EndingMeans P t limit steps lower upper a Converged = gap lower upper ≤ 2 * t
+EndingMeans P t limit steps lower upper a Stuck = GapPasses t lower upper × NoMoveLowers P (at a)
+EndingMeans P t limit steps lower upper a Spent = (steps ≡ limit) × GapPasses t lower upper × (i : ℕ) × (j : ℕ) × Candidate P a i j
 
 -- the same of an outcome, with the thresholds of its multipliers
 abbrev pub OutcomeMeans : Problem → ℕ → ℕ → Outcome → Ending → Type 0
-OutcomeMeans P t limit o = Means P t limit (o .steps) (bLow P (at (o .multipliers))) (bUp P (at (o .multipliers))) (o .multipliers)
+OutcomeMeans P t limit o = EndingMeans P t limit (o .steps) (bLow P (at (o .multipliers))) (bUp P (at (o .multipliers))) (o .multipliers)
 
 abbrev pub OutcomeGapPasses : Problem → ℕ → Outcome → Type 0
 OutcomeGapPasses P t o = GapPasses t (bLow P (at (o .multipliers))) (bUp P (at (o .multipliers)))
@@ -36,10 +36,10 @@ pub record Sound (P : Problem) (t limit : ℕ) (o : Outcome) : Type 0 where
   pub means : OutcomeMeans P t limit o (o .ending)
   pub stuck-exactly : (o .ending ≡ Stuck) ↔ (OutcomeGapPasses P t o × NoMoveLowers P (at (o .multipliers)))
 
--- k steps, each as `next` says, lead from a to b
+-- k steps, each as `turn` says, lead from a to b
 pub data Steps (P : Problem) (t : ℕ) : List ℕ → ℕ → List ℕ → Type 0 where
   noStep : {a : List ℕ} → Steps P t a 0 a
-  step : {a b c : List ℕ} {k : ℕ} → next P t a ≡ goesOn b → Steps P t b k c → Steps P t a (suc k) c
+  step : {a b c : List ℕ} {k : ℕ} → turn P t a ≡ continues b → Steps P t b k c → Steps P t a (suc k) c
 
 -- an outcome with k steps more, taken before it
 abbrev pub moreSteps : ℕ → Outcome → Outcome

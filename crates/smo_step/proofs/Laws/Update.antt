@@ -23,8 +23,8 @@ use Rattle.dual_problem.specs.Size.{gradientMost}
 use Rattle.dual_problem.specs.Problem.{Problem, Feasible, gradient, at}
 use Rattle.dual_problem.proofs.Laws.Problem.{problem-gram}
 use Rattle.dual_problem.proofs.Laws.Problem.Ceilings.{ceiling-range, feasible-most}
-use Rattle.dual_problem.specs.Items.{MultipliersListed, problemOf}
-use Rattle.dual_problem.proofs.Laws.Items.{gradient-size}
+use Rattle.dual_problem.specs.FileProblem.{MultipliersListed, problemOf}
+use Rattle.dual_problem.proofs.Laws.FileProblem.{gradient-size}
 use Rattle.working_pair.specs.Step.{Candidate, amount, curvature, fall, rise, room, slope}
 use Rattle.working_pair.proofs.Laws.Step.{room-bound, moved-length, moved-feasible, moved-gradient, curvature-nonneg, moves-slope, moves-apart, candidate-moves}
 use Rattle.working_pair.proofs.Laws.Step.Amount.{amount-in-room}

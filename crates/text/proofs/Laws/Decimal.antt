@@ -12,7 +12,7 @@ use borrow.Author.Tests.{le-leb, le-ltb, lt-ltb}
 use lib.IntN.{ℤ, pos, negsuc, natAbs}
 use lib.Signed.{leZ, mag}
 use lib.ListN.{length, length-append}
-use Rattle.integers.proofs.Laws.Test.{clash}
+use Rattle.integers.proofs.Laws.Truth.{clash}
 use Rattle.text.specs.Decimal.{digits, decimal, signedDecimal}
 
 -- a number of one digit, and one of more

@@ -8,7 +8,7 @@ use native.Mathlib.Omega.{arith}
 use borrow.Author.Tests.{eq-eqb, ne-eqb}
 use lib.Dec.{eqb, ltb}
 use lib.IntN.{ℤ, pos, negsuc}
-use Rattle.integers.proofs.Laws.Test.{chose-either, chose-second}
+use Rattle.integers.proofs.Laws.Truth.{chose-either, chose-second}
 use Rattle.text.specs.Decimal.{digits, decimal, signedDecimal}
 use Rattle.text.specs.Parts.{before, free, parts}
 

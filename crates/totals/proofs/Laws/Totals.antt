@@ -9,12 +9,12 @@ use lib.IntN.{pos, negsuc, _+ℤ_, _-ℤ_, _*ℤ_}
 use Rattle.integers.proofs.Laws.Linear.{integer, -ℤ-parts, ≡-to-parts}
 use Rattle.integers.proofs.Laws.Solver.{con, _⊕_, _⊗_, _⊖_, solve, x₀, x₁, x₂, x₃}
 use Rattle.integers.specs.Sum.{sum}
-use Rattle.integers.proofs.Laws.Test.{chose-either}
+use Rattle.integers.proofs.Laws.Truth.{chose-either}
 use Rattle.training_file.specs.declared.item.Label.{Label}
 use Rattle.training_file.specs.declared.item.Label.the-variants.{LookedUp, PassedOver}
 use Rattle.training_file.specs.Parameters.{recordsMost}
 use Rattle.dual_problem.specs.Problem.{sign}
-use Rattle.totals.specs.declared.totals.Shown.{Shown}
+use Rattle.totals.specs.declared.sums.Shown.{Shown}
 use Rattle.totals.specs.Totals.{both, countAboveZero, oneAboveZero, share, sumOver, totals, totalsOfLine}
 
 -- one line more

@@ -4,7 +4,7 @@ use mathlib.Core.Bool.{Bool, true, false}
 use mathlib.Core.List.{List}
 use Prim.Native.Nat.{ℕ}
 use native.Mathlib.Omega.{arith}
-use Rattle.integers.proofs.Laws.Test.{chose-first, chose-second}
+use Rattle.integers.proofs.Laws.Truth.{chose-first, chose-second}
 use Rattle.training_file.specs.declared.refusal.Refusal.{Refusal}
 use Rattle.training_file.specs.declared.count.Count.the-variants as count
 use Rattle.training_file.specs.declared.parameters.Kernel.{Kernel}

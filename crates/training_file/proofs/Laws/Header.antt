@@ -7,7 +7,7 @@ use native.Mathlib.Omega.{arith}
 use lib.Dec.{leb, eqb}
 use lib.ListN.{length}
 use borrow.Author.Tests.{le-leb, lt-leb, eq-eqb, ne-eqb, leb-true, eqb-true}
-use Rattle.integers.proofs.Laws.Test.{&&-both, &&-left}
+use Rattle.integers.proofs.Laws.Truth.{&&-both, &&-left}
 use Rattle.training_file.specs.Layout.{firstRecord, kernelByte, recordsStored, spare}
 use Rattle.training_file.specs.Parameters.{kernelAllowed, parametersAllowed, recordsMost}
 use Rattle.training_file.specs.Header.{WholeFile, headerAllowed, lengthAllowed, parametersOf}

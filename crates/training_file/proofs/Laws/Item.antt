@@ -11,7 +11,7 @@ use lib.ListN.{length, getD, List·getD-eq-default}
 use lib.Signed.{leZ}
 use borrow.Author.Tests.{le-leb, lt-leb, leb-true, eqb-true, eqb-false}
 use Rattle.integers.specs.Zero.{isZero}
-use Rattle.integers.proofs.Laws.Test.{&&-both, &&-left, &&-right}
+use Rattle.integers.proofs.Laws.Truth.{&&-both, &&-left, &&-right}
 use Rattle.integers.proofs.Laws.Zero.{is-zero-true}
 use Rattle.integers.proofs.Laws.Places.{all-holds}
 use Rattle.training_file.specs.declared.item.Label.{Label}

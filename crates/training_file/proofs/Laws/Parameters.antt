@@ -5,7 +5,7 @@ use Prim.Native.Nat.{ℕ, _≤_}
 use native.Mathlib.Omega.{arith}
 use lib.Dec.{leb, eqb}
 use borrow.Author.Tests.{leb-true, eqb-true, eqb-false}
-use Rattle.integers.proofs.Laws.Test.{&&-both}
+use Rattle.integers.proofs.Laws.Truth.{&&-both}
 use Rattle.training_file.specs.declared.parameters.Kernel.{Kernel}
 use Rattle.training_file.specs.declared.parameters.Kernel.the-variants.{Linear, Square, Overlap}
 use Rattle.training_file.specs.declared.parameters.Parameters.{Parameters}
@@ -31,15 +31,15 @@ module _ (p : Parameters) where
   unfolding parametersAllowed
   grid-refused h = rw (h, and-false (within 1 featureCount (p .used)))
 
-  pub ceilings-refused : ceilingsAllowed (p .ceiling) (p .second) ≡ false → parametersAllowed p ≡ false
+  pub ceilings-refused : ceilingsAllowed (p .ceiling) (p .«second_ceiling») ≡ false → parametersAllowed p ≡ false
   unfolding parametersAllowed
   ceilings-refused h = rw (h, and-false (within 1 featureCount (p .used) && within 1 gridMost (p .grid)))
 
   pub tolerance-refused : within 0 toleranceMost (p .tolerance) ≡ false → parametersAllowed p ≡ false
   unfolding parametersAllowed
-  tolerance-refused h = rw (h, and-false (within 1 featureCount (p .used) && within 1 gridMost (p .grid) && ceilingsAllowed (p .ceiling) (p .second)))
+  tolerance-refused h = rw (h, and-false (within 1 featureCount (p .used) && within 1 gridMost (p .grid) && ceilingsAllowed (p .ceiling) (p .«second_ceiling»)))
 
-  module _ (u : within 1 featureCount (p .used) ≡ true) (g : within 1 gridMost (p .grid) ≡ true) (c : ceilingsAllowed (p .ceiling) (p .second) ≡ true) (t : within 0 toleranceMost (p .tolerance) ≡ true) where
+  module _ (u : within 1 featureCount (p .used) ≡ true) (g : within 1 gridMost (p .grid) ≡ true) (c : ceilingsAllowed (p .ceiling) (p .«second_ceiling») ≡ true) (t : within 0 toleranceMost (p .tolerance) ≡ true) where
     pub budget-decides : parametersAllowed p ≡ within 0 budgetMost (p .budget)
     unfolding parametersAllowed
     budget-decides = rw (u, g, c, t)
@@ -49,8 +49,8 @@ module _ (p : Parameters) where
   allowed-ranges h =
       let b = &&-both _ (within 0 budgetMost (p .budget)) h in
       let t = &&-both _ (within 0 toleranceMost (p .tolerance)) (b .0) in
-      let both = &&-both _ (ceilingsAllowed (p .ceiling) (p .second)) (t .0) in
-      let c = &&-both (within 1 ceilingMost (p .ceiling)) (within 0 ceilingMost (p .second)) (both .1) in
+      let both = &&-both _ (ceilingsAllowed (p .ceiling) (p .«second_ceiling»)) (t .0) in
+      let c = &&-both (within 1 ceilingMost (p .ceiling)) (within 0 ceilingMost (p .«second_ceiling»)) (both .1) in
       let g = &&-both (within 1 featureCount (p .used)) (within 1 gridMost (p .grid)) (both .0) in
       record {
         used-least = within-both 1 featureCount (p .used) (g .0) .0;
@@ -59,7 +59,7 @@ module _ (p : Parameters) where
         grid-greatest = within-both 1 gridMost (p .grid) (g .1) .1;
         ceiling-least = within-both 1 ceilingMost (p .ceiling) (c .0) .0;
         ceiling-greatest = within-both 1 ceilingMost (p .ceiling) (c .0) .1;
-        second-greatest = within-both 0 ceilingMost (p .second) (c .1) .1;
+        second-ceiling-greatest = within-both 0 ceilingMost (p .«second_ceiling») (c .1) .1;
         tolerance-greatest = within-both 0 toleranceMost (p .tolerance) (t .1) .1;
         budget-greatest = within-both 0 budgetMost (p .budget) (b .1) .1;
       }

@@ -7,7 +7,7 @@ use native.Mathlib.Nat.{le-of-suc-le-suc}
 use native.Mathlib.Omega.{arith}
 use lib.Dec.{eqb}
 use lib.ListN.{length, getD, length-map, length-take, length-drop}
-use Rattle.integers.proofs.Laws.Test.{&&-left, &&-right}
+use Rattle.integers.proofs.Laws.Truth.{&&-left, &&-right}
 use Rattle.training_file.specs.Layout.{featureBytes, featureCount, labelByte, signedByte, zeroByte}
 use Rattle.training_file.specs.Item.{featuresAllowed, itemAllowed, labelAllowed}
 use Rattle.training_file.specs.Record.{Stored, every, featuresAt, recordAllowed}

@@ -7,7 +7,7 @@ use Prim.Native.Nat.{ℕ, zero, suc, _≤_}
 use native.Mathlib.Omega.{arith}
 use Rattle.integers.specs.Member.{member}
 use Rattle.integers.proofs.Laws.Member.{member-true}
-use Rattle.integers.proofs.Laws.Test.{clash}
+use Rattle.integers.proofs.Laws.Truth.{clash}
 use Rattle.training_file.specs.declared.refusal.Refusal.{Refusal}
 use Rattle.training_file.specs.Refusal.{OneOf, RecordCarried, refusal}
 use Rattle.training_file.specs.Record.{every}

@@ -14,7 +14,7 @@ use lib.IntN.{pos, negsuc, _+ℤ_, _-ℤ_, _*ℤ_}
 use lib.ListN.{length, set, length-set}
 use lib.Seq.{getD-set-same, getD-set-other, lt-length-set}
 use lib.Signed.{_≤ℤ_, _<ℤ_, ≤ℤ-refl}
-use Rattle.integers.proofs.Laws.Test.{&&-true, &&-left, &&-right, clash}
+use Rattle.integers.proofs.Laws.Truth.{&&-true, &&-left, &&-right, clash}
 use Rattle.integers.proofs.Laws.Linear.{integer, +ℤ-parts, -ℤ-parts, *ℤ-parts}
 use Rattle.integers.proofs.Laws.Order.{ltZ-true, ≤ℤ-ltZ}
 use Rattle.integers.specs.Range.{InRange}

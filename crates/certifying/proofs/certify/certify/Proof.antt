@@ -6,7 +6,7 @@ use Prim.Native.Nat.{ℕ}
 use borrow.Author.Needs.{needs}
 use Rattle.reading.specs.Reading.{reading}
 use Rattle.reading.proofs.Laws.Calls.{first-accepted, first-refused}
-use Rattle.dual_problem.proofs.Laws.Items.Read.{order-listed}
+use Rattle.dual_problem.proofs.Laws.FileProblem.Read.{order-listed}
 use Rattle.certifying.specs.declared.certify.Certified.{Certified}
 use Rattle.certifying.specs.Certify.{CertifiedDistance, certifying}
 use Rattle.certifying.proofs.Laws.Certify.{certified-distance}

@@ -7,7 +7,7 @@ use Rattle.reading.specs.Reading.{reading}
 use Rattle.reading.specs.Calls.{itemsIn}
 use Rattle.dual_problem.specs.Problem.{Problem, at}
 use Rattle.dual_problem.proofs.Laws.Problem.Ceilings.{feasible-most}
-use Rattle.dual_problem.specs.Items.{problemOf}
+use Rattle.dual_problem.specs.FileProblem.{problemOf}
 use Rattle.certifying.specs.declared.certify.Certified.the-variants.{Refused, Found}
 use Rattle.certifying.specs.Multipliers.{judgementRefusal}
 use Rattle.certifying.proofs.Laws.Multipliers.{judgement-feasible}
@@ -18,8 +18,8 @@ use Rattle.certifying.proofs.certify.certify_read.Tie as tie
 abbrev P : tie.Start → Problem
 P s = problemOf (s .args .file .now) (s .args .parameters)
 
-judge-requires : tie.Need-judge-requires
-judge-requires c κs = search needs
+judge-multipliers-requires : tie.Need-judge-multipliers-requires
+judge-multipliers-requires c κs = search needs
 
 enum-told : tie.Need-enum-told
 enum-told c = search needs
@@ -34,12 +34,12 @@ returns : tie.Need-returns
 returns c =
     let s = c .before .before .before .before .before .before .before in
     let why = c .before .enum-told2 .given .1 in
-    ap Refused (c .refusal .ensures ∙ ap judgementRefusal why) ∙ sym (ap (certifyJudged (P s) (s .args .multipliers .now)) (sym (c .before .before .before .judge .ensures) ∙ why))
+    ap Refused (c .refusal .ensures ∙ ap judgementRefusal why) ∙ sym (ap (certifyJudged (P s) (s .args .multipliers .now)) (sym (c .before .before .before .judge-multipliers .ensures) ∙ why))
 
 find-thresholds-requires : tie.Need-find-thresholds-requires
 find-thresholds-requires c κs =
     let s = c .before .before .before .before .before .before in
-    let f = judgement-feasible (P s) (s .args .multipliers .now) (sym (c .before .before .judge .ensures) ∙ c .enum-told .given .1) in
+    let f = judgement-feasible (P s) (s .args .multipliers .now) (sym (c .before .before .judge-multipliers .ensures) ∙ c .enum-told .given .1) in
     record {
       table = s .pre .0;
       used = s .pre .1 .used-greatest;
@@ -51,13 +51,13 @@ find-thresholds-requires c κs =
 returns-2 : tie.Need-returns-2
 returns-2 c =
     let s = c .before .before .before .before .before .before .before in
-    ap Found (c .find-thresholds .ensures) ∙ sym (ap (certifyJudged (P s) (s .args .multipliers .now)) (sym (c .before .before .before .judge .ensures) ∙ c .before .enum-told .given .1))
+    ap Found (c .find-thresholds .ensures) ∙ sym (ap (certifyJudged (P s) (s .args .multipliers .now)) (sym (c .before .before .before .judge-multipliers .ensures) ∙ c .before .enum-told .given .1))
 
 pub certify-read-spec : {M : Type 1} → statement M
 certify-read-spec =
     tie.close
     (tie.spec
-    judge-requires
+    judge-multipliers-requires
     enum-told
     enum-told-2
     refusal-requires

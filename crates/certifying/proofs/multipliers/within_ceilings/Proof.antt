@@ -13,7 +13,7 @@ use Rattle.integers.specs.Places.{all}
 use Rattle.integers.proofs.Laws.Places.{all-suc, all-fails}
 use Rattle.training_file.specs.declared.parameters.Parameters.{Parameters}
 use Rattle.dual_problem.specs.Problem.{ceilingOf, at}
-use Rattle.dual_problem.specs.Items.{problemOf}
+use Rattle.dual_problem.specs.FileProblem.{problemOf}
 use Rattle.certifying.proofs.multipliers.within_ceilings.Statement.{statement}
 use Rattle.certifying.proofs.multipliers.within_ceilings.Tie as tie
 

@@ -1,4 +1,4 @@
--- `chain::walker::advance` meets its contract: a walk of its MIR, by hand. The struct is taken apart, `step::next_at` is called on the slice and the numbers, and `at` makes the `Walker` of the slice, the number found and one more met. All that the proof knows of the two is that each meets its contract.
+-- `chain::walker::advance` meets its contract: a walk of its MIR, by hand. The struct is taken apart, `link::next_at` is called on the slice and the numbers, and `at` makes the `Walker` of the slice, the number found and one more met. All that the proof knows of the two is that each meets its contract.
 -- The struct is Copy: what it owns is had twice before each call, one copy is kept whole for the exit, and of the other what file owns goes to the callee, beside the lifetime's token, which comes back. The machine value of the number found is passed on as it is.
 -- Assumes nothing.
 use mathlib.Core.Path.{_≡_, refl, _∙_}
@@ -44,13 +44,13 @@ use denote.Exit.{yes}
 use denote.Triple.Clauses.{ensured, lasts}
 use Rattle.training_file.specs.Header.{WholeFile}
 use Rattle.chain.specs.declared.walker.Walker.{Walker}
-use Rattle.chain.specs.Stages.{stepAt, stepNext}
+use Rattle.chain.specs.Answers.{linkAt, linkNext}
 use Rattle.chain.proofs.walker.Walker as T
 use Rattle.chain.proofs.walker.Walker.Laws as T′
-use Rattle.chain.proofs.step.next_at as next
-use Rattle.chain.proofs.step.next_at.Symbol as next-def
-use Rattle.chain.proofs.step.next_at.Symbol.{name as #step·next-at}
-use Rattle.chain.proofs.step.next_at.Met as next-thm
+use Rattle.chain.proofs.link.next_at as next
+use Rattle.chain.proofs.link.next_at.Symbol as next-def
+use Rattle.chain.proofs.link.next_at.Symbol.{name as #link·next-at}
+use Rattle.chain.proofs.link.next_at.Met as next-thm
 use Rattle.chain.proofs.walker.at as at
 use Rattle.chain.proofs.walker.at.Symbol as at-def
 use Rattle.chain.proofs.walker.at.Symbol.{name as #walker·at}
@@ -84,7 +84,7 @@ module _ {M : Type 1} (𝓤 : URA M) (H : Heap 𝓤) (A : Atoms 𝓤) (W : Given
   v = sliceVal (d .file .ptr) (length (d .file .now))
 
   abbrev found : ℕ
-  found = stepNext (stepAt (now (d .file)) (d .number) (d .met))
+  found = linkNext (linkAt (now (d .file)) (d .number) (d .met))
 
   abbrev Post : Val → SProp 𝓤
   Post = walkOf 𝓤 H A advance.ended stayed (advance.clauses 𝓤 H A mem run) .post (((κ, tt), (q, tt), tt, (d, tt), (mach ∷ [], tt)), tt)
@@ -147,7 +147,7 @@ module _ {M : Type 1} (𝓤 : URA M) (H : Heap 𝓤) (A : Atoms 𝓤) (W : Given
       suffices ! _ (ends-at 𝓤 H A advance.ended stayed (advance.clauses 𝓤 H A mem run) W (((κ, tt), (q, tt), tt, (d, tt), (mach ∷ [], tt)), tt) u r (tt, tt) (tt, tt)) $ says ! e $
       move ! (1 ∷ []) $ frame ! $ nothing ! $ move ! (2 ∷ 0 ∷ []) $ fjoin ! $ frame ! $ done !
 
-  module _ (C : Calls 𝓤 H) (Λ : Loops 𝓤 H) (fm : FmC 𝓤 H (W .laws) C) (known-next : Triple 𝓤 (C #step·next-at) (NextAt 𝓤 H A mem run)) (known-at : Triple 𝓤 (C #walker·at) (At 𝓤 H A mem run)) where
+  module _ (C : Calls 𝓤 H) (Λ : Loops 𝓤 H) (fm : FmC 𝓤 H (W .laws) C) (known-next : Triple 𝓤 (C #link·next-at) (NextAt 𝓤 H A mem run)) (known-at : Triple 𝓤 (C #walker·at) (At 𝓤 H A mem run)) where
     walk : Holds (hasTy (T′.mir (named 0)) mach) × WT mach → ent 𝓤 (onEntry 𝓤 H A advance.signature (κ, tt) (q, tt) (d, tt) (mach ∷ [], tt)) (WpFn 𝓤 H C Λ code.function (mach ∷ []) Post)
     walk wt =
         qed W (raw (onEntry 𝓤 H A advance.signature (κ, tt) (q, tt) (d, tt) (mach ∷ [], tt)) ∷ []) ∵ enter ! C Λ code.function (mach ∷ []) _ $
@@ -177,14 +177,14 @@ module _ {M : Type 1} (𝓤 : URA M) (H : Heap 𝓤) (A : Atoms 𝓤) (W : Given
         by ! (exits r u′ (e′ .0, e′ .1 ∙ e, e′ .2)))))))))))))))))))
 
 module _ {M : Type 1} (𝓤 : URA M) (H : Heap 𝓤) (A : Atoms 𝓤) (W : Given 𝓤 H A) (mem : Memory → SProp 𝓤) (run : Routine → Fun 𝓤) where
-  advance-walks : (C : Calls 𝓤 H) (Λ : Loops 𝓤 H) → FmC 𝓤 H (W .laws) C → Triple 𝓤 (C #step·next-at) (NextAt 𝓤 H A mem run) → Triple 𝓤 (C #walker·at) (At 𝓤 H A mem run)
+  advance-walks : (C : Calls 𝓤 H) (Λ : Loops 𝓤 H) → FmC 𝓤 H (W .laws) C → Triple 𝓤 (C #link·next-at) (NextAt 𝓤 H A mem run) → Triple 𝓤 (C #walker·at) (At 𝓤 H A mem run)
       → Walks 𝓤 H A advance.ended stayed (WpFn 𝓤 H C Λ code.function) (advance.clauses 𝓤 H A mem run)
   advance-walks C Λ fm known-next known-at = walked 𝓤 H A advance.ended stayed (advance.clauses 𝓤 H A mem run) (WpFn 𝓤 H C Λ code.function) (λ κs. (LL.vals (T.the-type (namedLft 1 0 tt κs)) (T′.the-laws (namedLft 1 0 tt κs)), tt)) (λ κs. (LL.tells (T.the-type (namedLft 1 0 tt κs)) (T′.the-laws (namedLft 1 0 tt κs)), tt))
       (λ κs qs bounds a g are. needs 𝓤 (WholeFile (now (a .0 .file)) × (a .0 .met + 1 < 2 ^ 64)) _ (λ held.
       walk 𝓤 H A W mem run (κs .0) (qs .0) (a .0) (held .0) (held .1) C Λ fm known-next known-at (LL.lawful (T.the-type (namedLft 1 0 tt κs)) (T′.the-laws (namedLft 1 0 tt κs)) 𝓤 H A W .typed (a .0) _ (are .0) .0)))
 
 advance-meets : {M : Type 1} (𝓤 : URA M) (H : Heap 𝓤) (A : Atoms 𝓤) (W : Given 𝓤 H A) (mem : Memory → SProp 𝓤) (run : Routine → Fun 𝓤) (𝓣 : Tables 𝓤 H)
-    → Triple 𝓤 (𝓣 .C #step·next-at) (NextAt 𝓤 H A mem run) → Triple 𝓤 (𝓣 .C #walker·at) (At 𝓤 H A mem run)
+    → Triple 𝓤 (𝓣 .C #link·next-at) (NextAt 𝓤 H A mem run) → Triple 𝓤 (𝓣 .C #walker·at) (At 𝓤 H A mem run)
     → Meets 𝓤 H A advance.signature (WpFn 𝓤 H (𝓣 .C) (𝓣 .Λ) code.function) (advance.spec 𝓤 H A mem run)
 advance-meets 𝓤 H A W mem run 𝓣 known-next known-at = walk-meets 𝓤 H A advance.ended stayed W (goes-none 𝓤 H A W 1 B yes (λ κs x f. refl), tt) (advance.clauses 𝓤 H A mem run) (WpFn 𝓤 H (𝓣 .C) (𝓣 .Λ) code.function) (WpFn-mono 𝓤 H (W .laws) 𝓣 code.function)
     (advance-walks 𝓤 H A W mem run (𝓣 .C) (𝓣 .Λ) (fmOf 𝓤 H (W .laws) 𝓣) known-next known-at)
@@ -195,5 +195,5 @@ advance-spec 𝓤 H 𝓜 𝓖 𝓡 =
     entered 𝓤 H (tripleOf 𝓤 H (𝓖 .A) advance.signature (advance.spec 𝓤 H (𝓖 .A) (𝓜 .mem) (𝓡 .run)))
     (tables 𝓤 H 𝓜 𝓡 code.env .C) (tables 𝓤 H 𝓜 𝓡 code.env .Λ) #walker·advance code.function (code.unfolded 𝓤 H 𝓜 𝓡)
     (advance-meets 𝓤 H (𝓖 .A) (givenOf 𝓤 H 𝓜 𝓖) (𝓜 .mem) (𝓡 .run) (tablesOf 𝓤 H 𝓜 (tables 𝓤 H 𝓜 𝓡 code.env))
-    (cited 𝓤 H (NextAt 𝓤 H (𝓖 .A) (𝓜 .mem) (𝓡 .run)) 𝓜 𝓡 code.env #step·next-at next-def.routine code.calls-chain·step·next-at (next-thm.met 𝓤 H 𝓜 𝓖 𝓡))
+    (cited 𝓤 H (NextAt 𝓤 H (𝓖 .A) (𝓜 .mem) (𝓡 .run)) 𝓜 𝓡 code.env #link·next-at next-def.routine code.calls-chain·link·next-at (next-thm.met 𝓤 H 𝓜 𝓖 𝓡))
     (cited 𝓤 H (At 𝓤 H (𝓖 .A) (𝓜 .mem) (𝓡 .run)) 𝓜 𝓡 code.env #walker·at at-def.routine code.calls-chain·walker·at (at-thm.met 𝓤 H 𝓜 𝓖 𝓡)))

@@ -39,7 +39,7 @@ use denote.Exit.{yes}
 use denote.Triple.Clauses.{ensured, lasts}
 use Rattle.training_file.specs.Header.{WholeFile}
 use Rattle.chain.specs.declared.walker.Walker.{Walker}
-use Rattle.chain.specs.Stages.{stepAt, stepNext}
+use Rattle.chain.specs.Answers.{linkAt, linkNext}
 use Rattle.chain.proofs.walker.Walker as T
 use Rattle.chain.proofs.walker.Walker.Laws as T′
 use Rattle.chain.proofs.walker.at as at
@@ -71,7 +71,7 @@ abbrev Stands : RefT (List ℕ) → ℕ → ℕ → Walker → Type 0
 Stands s n k r = (r .file ≡ s) × (r .number ≡ n) × (r .met ≡ k)
 
 abbrev Advanced : Walker → Walker → Type 0
-Advanced r t = Stands (r .file) (stepNext (stepAt (now (r .file)) (r .number) (r .met))) (r .met + 1) t
+Advanced r t = Stands (r .file) (linkNext (linkAt (now (r .file)) (r .number) (r .met))) (r .met + 1) t
 
 module _ {M : Type 1} (𝓤 : URA M) (H : Heap 𝓤) (A : Atoms 𝓤) (mem : Memory → SProp 𝓤) (run : Routine → Fun 𝓤) where
   -- the contracts that the proof cites
@@ -93,7 +93,7 @@ module _ {M : Type 1} (𝓤 : URA M) (H : Heap 𝓤) (A : Atoms 𝓤) (W : Given
   passed = (v ∷ [], (vint w64 n ∷ [], (vint w64 k ∷ [], tt)))
 
   abbrev found : ℕ
-  found = stepNext (stepAt (now s) n k)
+  found = linkNext (linkAt (now s) n k)
 
   -- the struct's type as a local of a body has it
   abbrev αᵉ : NamedLft
@@ -176,7 +176,7 @@ module _ {M : Type 1} (𝓤 : URA M) (H : Heap 𝓤) (A : Atoms 𝓤) (W : Given
         land ! (from ! (stop !)) (init ! 13 refl (uint-lawful 𝓤 H A W w64 .typed m _ is″ .0)) $
         returns ! (look ! 13 refl) $ forget ! 3 refl $ forget ! 5 refl $ forget ! 7 refl $ forget ! 9 refl $ forget ! 11 refl $ forget ! 13 refl $
         move ! (13 ∷ 14 ∷ []) $ free1 ! $ move ! (11 ∷ 12 ∷ []) $ free1 ! $ move ! (9 ∷ 10 ∷ []) $ free1 ! $ move ! (7 ∷ 8 ∷ []) $ free1 ! $ move ! (5 ∷ 6 ∷ []) $ free1 ! $ move ! (3 ∷ 4 ∷ []) $ free1 ! $ free0 ! $
-        by ! (exits m u″ (e″ ∙ e′ .1 ∙ λ i. stepNext (stepAt (now (e .0 i)) (e .1 i) (e .2 i))))))))))))))))))))))
+        by ! (exits m u″ (e″ ∙ e′ .1 ∙ λ i. linkNext (linkAt (now (e .0 i)) (e .1 i) (e .2 i))))))))))))))))))))))
 
 module _ {M : Type 1} (𝓤 : URA M) (H : Heap 𝓤) (A : Atoms 𝓤) (W : Given 𝓤 H A) (mem : Memory → SProp 𝓤) (run : Routine → Fun 𝓤) where
   next-from-walks : (C : Calls 𝓤 H) (Λ : Loops 𝓤 H) → FmC 𝓤 H (W .laws) C → Triple 𝓤 (C #walker·at) (At 𝓤 H A mem run) → Triple 𝓤 (C #walker·advance) (Advance 𝓤 H A mem run) → Triple 𝓤 (C #walker·number) (Number 𝓤 H A mem run)

@@ -1,4 +1,4 @@
--- `chain::walker::start` meets its contract: a walk of its MIR, by hand. `step::first` is called on the slice, and `at` makes the `Walker` of the slice, the number found and 0. All that the proof knows of the two is that each meets its contract.
+-- `chain::walker::start` meets its contract: a walk of its MIR, by hand. `link::first` is called on the slice, and `at` makes the `Walker` of the slice, the number found and 0. All that the proof knows of the two is that each meets its contract.
 -- A `&[u8]` is Copy, so what it owns is had again before each call. The machine value of the number found is passed on as it is.
 -- Assumes nothing.
 use mathlib.Core.Path.{_≡_, refl, _∙_}
@@ -43,10 +43,10 @@ use Rattle.training_file.specs.Header.{WholeFile}
 use Rattle.chain.specs.declared.walker.Walker.{Walker}
 use Rattle.chain.proofs.walker.Walker as T
 use Rattle.chain.proofs.walker.Walker.Laws as T′
-use Rattle.chain.proofs.step.first as first
-use Rattle.chain.proofs.step.first.Symbol as first-def
-use Rattle.chain.proofs.step.first.Symbol.{name as #step·first}
-use Rattle.chain.proofs.step.first.Met as first-thm
+use Rattle.chain.proofs.link.first as first
+use Rattle.chain.proofs.link.first.Symbol as first-def
+use Rattle.chain.proofs.link.first.Symbol.{name as #link·first}
+use Rattle.chain.proofs.link.first.Met as first-thm
 use Rattle.chain.proofs.walker.at as at
 use Rattle.chain.proofs.walker.at.Symbol as at-def
 use Rattle.chain.proofs.walker.at.Symbol.{name as #walker·at}
@@ -125,7 +125,7 @@ module _ {M : Type 1} (𝓤 : URA M) (H : Heap 𝓤) (A : Atoms 𝓤) (W : Given
       suffices ! _ (ends-at 𝓤 H A start.ended stayed (start.clauses 𝓤 H A mem run) W (((κ, tt), (q, tt), tt, (s, tt), (v ∷ [], tt)), tt) u r (tt, tt) (tt, tt)) $ says ! e $
       move ! (1 ∷ []) $ frame ! $ nothing ! $ move ! (2 ∷ 0 ∷ []) $ fjoin ! $ frame ! $ done !
 
-  module _ (C : Calls 𝓤 H) (Λ : Loops 𝓤 H) (fm : FmC 𝓤 H (W .laws) C) (known-first : Triple 𝓤 (C #step·first) (First 𝓤 H A mem run)) (known-at : Triple 𝓤 (C #walker·at) (At 𝓤 H A mem run)) where
+  module _ (C : Calls 𝓤 H) (Λ : Loops 𝓤 H) (fm : FmC 𝓤 H (W .laws) C) (known-first : Triple 𝓤 (C #link·first) (First 𝓤 H A mem run)) (known-at : Triple 𝓤 (C #walker·at) (At 𝓤 H A mem run)) where
     walk : Is (ShrSlice (named 0) κ u8) s (v ∷ []) → ent 𝓤 (onEntry 𝓤 H A start.signature (κ, tt) (q, tt) (s, tt) (v ∷ [], tt)) (WpFn 𝓤 H C Λ code.function (v ∷ []) Post)
     walk p =
         qed W (raw (onEntry 𝓤 H A start.signature (κ, tt) (q, tt) (s, tt) (v ∷ [], tt)) ∷ []) ∵ enter ! C Λ code.function (v ∷ []) _ $
@@ -148,13 +148,13 @@ module _ {M : Type 1} (𝓤 : URA M) (H : Heap 𝓤) (A : Atoms 𝓤) (W : Given
         by ! (exits r u′ (e′ .0, e′ .1 ∙ e, e′ .2)))))))))))))
 
 module _ {M : Type 1} (𝓤 : URA M) (H : Heap 𝓤) (A : Atoms 𝓤) (W : Given 𝓤 H A) (mem : Memory → SProp 𝓤) (run : Routine → Fun 𝓤) where
-  start-walks : (C : Calls 𝓤 H) (Λ : Loops 𝓤 H) → FmC 𝓤 H (W .laws) C → Triple 𝓤 (C #step·first) (First 𝓤 H A mem run) → Triple 𝓤 (C #walker·at) (At 𝓤 H A mem run)
+  start-walks : (C : Calls 𝓤 H) (Λ : Loops 𝓤 H) → FmC 𝓤 H (W .laws) C → Triple 𝓤 (C #link·first) (First 𝓤 H A mem run) → Triple 𝓤 (C #walker·at) (At 𝓤 H A mem run)
       → Walks 𝓤 H A start.ended stayed (WpFn 𝓤 H C Λ code.function) (start.clauses 𝓤 H A mem run)
   start-walks C Λ fm known-first known-at = walked 𝓤 H A start.ended stayed (start.clauses 𝓤 H A mem run) (WpFn 𝓤 H C Λ code.function) (λ κs. (slice-vals, tt)) (λ κs. (shr-slice-tells (named 0) (κs .0) u8, tt))
       (λ κs qs bounds a g are. needs 𝓤 (WholeFile (now (a .0))) _ (λ held. walk 𝓤 H A W mem run (κs .0) (qs .0) (a .0) held C Λ fm known-first known-at (are .0)))
 
 start-meets : {M : Type 1} (𝓤 : URA M) (H : Heap 𝓤) (A : Atoms 𝓤) (W : Given 𝓤 H A) (mem : Memory → SProp 𝓤) (run : Routine → Fun 𝓤) (𝓣 : Tables 𝓤 H)
-    → Triple 𝓤 (𝓣 .C #step·first) (First 𝓤 H A mem run) → Triple 𝓤 (𝓣 .C #walker·at) (At 𝓤 H A mem run)
+    → Triple 𝓤 (𝓣 .C #link·first) (First 𝓤 H A mem run) → Triple 𝓤 (𝓣 .C #walker·at) (At 𝓤 H A mem run)
     → Meets 𝓤 H A start.signature (WpFn 𝓤 H (𝓣 .C) (𝓣 .Λ) code.function) (start.spec 𝓤 H A mem run)
 start-meets 𝓤 H A W mem run 𝓣 known-first known-at = walk-meets 𝓤 H A start.ended stayed W (goes-none-slice 𝓤 H A W 1 (0 ∷ []) tt (plain (λ _. u8)) yes, tt) (start.clauses 𝓤 H A mem run) (WpFn 𝓤 H (𝓣 .C) (𝓣 .Λ) code.function) (WpFn-mono 𝓤 H (W .laws) 𝓣 code.function)
     (start-walks 𝓤 H A W mem run (𝓣 .C) (𝓣 .Λ) (fmOf 𝓤 H (W .laws) 𝓣) known-first known-at)
@@ -165,5 +165,5 @@ start-spec 𝓤 H 𝓜 𝓖 𝓡 =
     entered 𝓤 H (tripleOf 𝓤 H (𝓖 .A) start.signature (start.spec 𝓤 H (𝓖 .A) (𝓜 .mem) (𝓡 .run)))
     (tables 𝓤 H 𝓜 𝓡 code.env .C) (tables 𝓤 H 𝓜 𝓡 code.env .Λ) #walker·start code.function (code.unfolded 𝓤 H 𝓜 𝓡)
     (start-meets 𝓤 H (𝓖 .A) (givenOf 𝓤 H 𝓜 𝓖) (𝓜 .mem) (𝓡 .run) (tablesOf 𝓤 H 𝓜 (tables 𝓤 H 𝓜 𝓡 code.env))
-    (cited 𝓤 H (First 𝓤 H (𝓖 .A) (𝓜 .mem) (𝓡 .run)) 𝓜 𝓡 code.env #step·first first-def.routine code.calls-chain·step·first (first-thm.met 𝓤 H 𝓜 𝓖 𝓡))
+    (cited 𝓤 H (First 𝓤 H (𝓖 .A) (𝓜 .mem) (𝓡 .run)) 𝓜 𝓡 code.env #link·first first-def.routine code.calls-chain·link·first (first-thm.met 𝓤 H 𝓜 𝓖 𝓡))
     (cited 𝓤 H (At 𝓤 H (𝓖 .A) (𝓜 .mem) (𝓡 .run)) 𝓜 𝓡 code.env #walker·at at-def.routine code.calls-chain·walker·at (at-thm.met 𝓤 H 𝓜 𝓖 𝓡)))

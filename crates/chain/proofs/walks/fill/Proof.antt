@@ -6,8 +6,8 @@ use Prim.Native.Nat.{_-_, _≤_, _<_}
 use native.Mathlib.Omega.{arith}
 use lib.ListN.{length, getD, take, drop, length-set}
 use borrow.Author.Needs.{needs, scaled-fits}
-use Rattle.chain.specs.Stages.{orderOf}
-use Rattle.chain.proofs.Laws.Stages.{fill-done, fill-more, order-first, order-next, order-within}
+use Rattle.chain.specs.Answers.{orderOf}
+use Rattle.chain.proofs.Laws.Answers.{fill-done, fill-more, order-first, order-next, order-within}
 use Rattle.chain.proofs.walks.fill.Statement.{statement}
 use Rattle.chain.proofs.walks.fill.Tie as tie
 

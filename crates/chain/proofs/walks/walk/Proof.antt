@@ -9,7 +9,7 @@ use borrow.Author.Needs.{needs}
 use Rattle.training_file.specs.Layout.{nextOf, recordsStored}
 use Rattle.training_file.specs.Parameters.{recordsMost}
 use Rattle.training_file.specs.declared.count.Count.the-variants.{Refused}
-use Rattle.chain.proofs.Laws.Stages.{Passed, mark-again, mark-left, mark-new, passed-first, passed-last, step-ended, step-next, step-over}
+use Rattle.chain.proofs.Laws.Answers.{Passed, mark-again, mark-left, mark-new, passed-first, passed-last, link-ended, link-next, link-over}
 use Rattle.chain.proofs.walks.walk.Statement.{statement}
 use Rattle.chain.proofs.walks.walk.Tie as tie
 
@@ -19,7 +19,7 @@ Inv-loop file marks₀ last₀ number₀ met₀ marks last number met = Passed f
 abbrev μ-loop : tie.MeasureT-loop
 μ-loop file marks₀ last₀ number₀ met₀ marks last number met = recordsStored file - met
 
--- a step that finds a record: its number is one of those stored
+-- a link to go on by: its number is one of those stored
 module _ (c : tie.After-known-told2 Inv-loop μ-loop) where
   abbrev turn : tie.At-loop Inv-loop μ-loop
   turn = c .before .before .before .before
@@ -31,7 +31,7 @@ module _ (c : tie.After-known-told2 Inv-loop μ-loop) where
   most = turn .before .before .before .pre .most
 
   found : (1 ≤ turn .loop .number) × (turn .loop .number ≤ recordsStored file) × (nextOf file (turn .loop .number) ≡ c .before .next .given .0 .0)
-  found = step-next _ _ _ _ _ (turn .loop .inv) _ (sym (c .before .before .before .step-from .ensures) ∙ c .before .next .given .1)
+  found = link-next _ _ _ _ _ (turn .loop .inv) _ (sym (c .before .before .before .link-from .ensures) ∙ c .before .next .given .1)
 
   -- it and the last record met have a place among the marks
   few : (turn .loop .number < 257) × (turn .loop .last < 257)
@@ -51,8 +51,8 @@ first-requires c κs = search needs
 loop-holds : tie.Need-loop-holds Inv-loop μ-loop
 loop-holds c = subst (λ (number : ℕ). Passed (c .before .before .args .file .now) _ 0 number 0) (sym (c .first .ensures)) (passed-first _)
 
-step-from-requires : tie.Need-step-from-requires Inv-loop μ-loop
-step-from-requires c κs = search needs
+link-from-requires : tie.Need-link-from-requires Inv-loop μ-loop
+link-from-requires c κs = search needs
 
 enum-known-count : tie.Need-enum-known-count Inv-loop μ-loop
 enum-known-count c = search needs
@@ -60,7 +60,7 @@ enum-known-count c = search needs
 returns : tie.Need-returns Inv-loop μ-loop
 returns c =
     let turn = c .before .before .before .before in
-    sym (step-ended _ _ _ _ _ (turn .loop .inv) _ (sym (c .before .before .before .step-from .ensures) ∙ c .before .count .given .1))
+    sym (link-ended _ _ _ _ _ (turn .loop .inv) _ (sym (c .before .before .before .link-from .ensures) ∙ c .before .count .given .1))
 
 enum-told : tie.Need-enum-told Inv-loop μ-loop
 enum-told c = search needs
@@ -77,7 +77,7 @@ returns-2 : tie.Need-returns-2 Inv-loop μ-loop
 returns-2 c =
     let turn = c .before .before .before .before in
     ap Refused (c .at-record .ensures)
-    ∙ sym (step-over _ _ _ _ _ (turn .loop .inv) (sym (c .before .before .before .step-from .ensures) ∙ c .before .enum-told .given .1))
+    ∙ sym (link-over _ _ _ _ _ (turn .loop .inv) (sym (c .before .before .before .link-from .ensures) ∙ c .before .enum-told .given .1))
 
 enum-known-next : tie.Need-enum-known-next Inv-loop μ-loop
 enum-known-next c = search needs
@@ -117,7 +117,7 @@ walk-spec =
     μ-loop
     first-requires
     loop-holds
-    step-from-requires
+    link-from-requires
     enum-known-count
     returns
     enum-told

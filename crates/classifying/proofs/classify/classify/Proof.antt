@@ -4,7 +4,7 @@ use mathlib.Core.Path.{refl, _∙_}
 use borrow.Author.Needs.{needs}
 use Rattle.reading.specs.Reading.{reading}
 use Rattle.reading.proofs.Laws.Calls.{first-accepted, first-refused}
-use Rattle.dual_problem.proofs.Laws.Items.Read.{order-listed}
+use Rattle.dual_problem.proofs.Laws.FileProblem.Read.{order-listed}
 use Rattle.classifying.proofs.classify.classify.Statement.{statement}
 use Rattle.classifying.proofs.classify.classify.Tie as tie
 

@@ -14,9 +14,9 @@ use Rattle.training_file.specs.Refusal.{refusal}
 use Rattle.reading.specs.Reading.{reading}
 use Rattle.reading.specs.Calls.{itemsIn}
 use Rattle.dual_problem.proofs.Laws.Problem.Ceilings.{feasible-most}
-use Rattle.dual_problem.specs.Items.{MultipliersListed, problemOf}
+use Rattle.dual_problem.specs.FileProblem.{MultipliersListed, problemOf}
 use Rattle.dual_problem.specs.Problem.{at}
-use Rattle.dual_problem.proofs.Laws.Items.{b-low-size, b-up-size}
+use Rattle.dual_problem.proofs.Laws.FileProblem.{b-low-size, b-up-size}
 use Rattle.dual_problem.specs.Size.{gradientMost}
 use Rattle.certifying.specs.declared.multipliers.Judgement.the-variants.{Feasible}
 use Rattle.certifying.specs.Multipliers.{judgement, judgementRefusal}
@@ -35,8 +35,8 @@ returns c =
     let s = c .before .before .before .before .before in
     sym (items-are (s .args .parameters) (items s) (s .args .multipliers .now) (s .args .word .now) (ne-eqb _ _ (c .if1 .taken)) refl)
 
-judge-requires : tie.Need-judge-requires
-judge-requires c κs = search needs
+judge-multipliers-requires : tie.Need-judge-multipliers-requires
+judge-multipliers-requires c κs = search needs
 
 enum-told : tie.Need-enum-told
 enum-told c = search needs
@@ -52,7 +52,7 @@ returns-2 c =
     let s = c .before .before .before .before .before .before .before .before .before in
     let why = c .before .enum-told2 .given .1 in
     ap Refused (c .refusal .ensures ∙ ap judgementRefusal why)
-    ∙ sym (items-are (s .args .parameters) (items s) (s .args .multipliers .now) (s .args .word .now) (eq-eqb _ _ (c .before .before .before .before .if1 .left)) (sym (c .before .before .before .judge .ensures) ∙ why))
+    ∙ sym (items-are (s .args .parameters) (items s) (s .args .multipliers .now) (s .args .word .now) (eq-eqb _ _ (c .before .before .before .before .if1 .left)) (sym (c .before .before .before .judge-multipliers .ensures) ∙ why))
 
 word-item-requires : tie.Need-word-item-requires
 word-item-requires c κs = omega (arith, c .before .before .before .before .before .before .before .before .pre .1 .used-greatest, c .before .before .before .if1 .left)
@@ -64,7 +64,7 @@ module _ (c : tie.After-word-item) where
 
   judged : judgement (problemOf (s .args .file .now) (s .args .parameters)) (s .args .multipliers .now) ≡ Feasible
   unfolding s
-  judged = sym (c .before .before .before .judge .ensures) ∙ c .before .enum-told .given .1
+  judged = sym (c .before .before .before .judge-multipliers .ensures) ∙ c .before .enum-told .given .1
 
   class-is : {t : Bool} → c .word-item .result .allowed ≡ t
       → cond t (class (s .args .parameters) (items s) (s .args .multipliers .now) (s .args .word .now)) (Refused (refusal 9))
@@ -127,7 +127,7 @@ classify-read-spec =
     tie.close
     (tie.spec
     returns
-    judge-requires
+    judge-multipliers-requires
     enum-told
     enum-told-2
     refusal-requires

@@ -10,7 +10,7 @@ use Rattle.integers.proofs.Laws.Bounds.{fits-width, reads-back}
 use Rattle.reading.specs.Reading.{reading}
 use Rattle.reading.specs.Calls.{itemsIn}
 use Rattle.dual_problem.specs.Problem.{Problem, at}
-use Rattle.dual_problem.specs.Items.{problemOf, weighedSum}
+use Rattle.dual_problem.specs.FileProblem.{problemOf, weighedSum}
 use Rattle.dual_problem.specs.Size.{gradientMost, scoreMost, weighedMost}
 use Rattle.classifying.specs.Classify.{scoreWith, wordKernel}
 use Rattle.classifying.proofs.Laws.Classify.{score-size, wordKernel-is}

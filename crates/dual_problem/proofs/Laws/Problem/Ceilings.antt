@@ -18,20 +18,20 @@ use Rattle.dual_problem.specs.Problem.{Feasible, ceilingOf, problem}
 
 module _ (p : Parameters) where
   -- "0 means the same as c"
-  pub ceiling-same : p .second ≡ 0 → ceilingOf p PassedOver ≡ p .ceiling
-  ceiling-same e = ap (λ t. cond t (p .ceiling) (p .second)) (eq-eqb (p .second) 0 e)
+  pub ceiling-same : p .«second_ceiling» ≡ 0 → ceilingOf p PassedOver ≡ p .ceiling
+  ceiling-same e = ap (λ t. cond t (p .ceiling) (p .«second_ceiling»)) (eq-eqb (p .«second_ceiling») 0 e)
 
-  pub ceiling-given : (p .second ≡ 0 → ⊥) → ceilingOf p PassedOver ≡ p .second
-  ceiling-given h = ap (λ t. cond t (p .ceiling) (p .second)) (ne-eqb (p .second) 0 h)
+  pub ceiling-given : (p .«second_ceiling» ≡ 0 → ⊥) → ceilingOf p PassedOver ≡ p .«second_ceiling»
+  ceiling-given h = ap (λ t. cond t (p .ceiling) (p .«second_ceiling»)) (ne-eqb (p .«second_ceiling») 0 h)
 
   -- no ceiling is 0, and none is above the highest
   pub ceiling-range : Ranges p → (label : Label) → (1 ≤ ceilingOf p label) × (ceilingOf p label ≤ ceilingMost)
   ceiling-range r LookedUp = (r .ceiling-least, r .ceiling-greatest)
-  ceiling-range r PassedOver = by (eqb (p .second) 0) refl
+  ceiling-range r PassedOver = by (eqb (p .«second_ceiling») 0) refl
     where
-      by : (t : Bool) → eqb (p .second) 0 ≡ t → (1 ≤ ceilingOf p PassedOver) × (ceilingOf p PassedOver ≤ ceilingMost)
+      by : (t : Bool) → eqb (p .«second_ceiling») 0 ≡ t → (1 ≤ ceilingOf p PassedOver) × (ceilingOf p PassedOver ≤ ceilingMost)
       by true e = rw e (r .ceiling-least, r .ceiling-greatest)
-      by false e = let other = eqb-false (p .second) 0 e in rw e (omega arith, r .second-greatest)
+      by false e = let other = eqb-false (p .«second_ceiling») 0 e in rw e (omega arith, r .second-ceiling-greatest)
 
   -- no multiplier of feasible ones is above the highest ceiling
   pub feasible-most : Ranges p → (items : List Item) (a : ℕ → ℕ) → Feasible (problem p items) a → (i : ℕ) → i < length items → a i ≤ ceilingMost

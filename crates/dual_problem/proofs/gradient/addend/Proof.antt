@@ -9,7 +9,7 @@ use Rattle.dual_problem.specs.Size.{termMost}
 use Rattle.dual_problem.specs.Kernel.{kernelBetween}
 use Rattle.dual_problem.proofs.Laws.Kernel.{kernel-reads, kernel-sized}
 use Rattle.dual_problem.specs.Problem.{sign, y}
-use Rattle.dual_problem.specs.Items.{kernelWith, problemOf}
+use Rattle.dual_problem.specs.FileProblem.{kernelWith, problemOf}
 use Rattle.dual_problem.proofs.gradient.addend.Statement.{statement}
 use Rattle.dual_problem.proofs.gradient.addend.Tie as tie
 

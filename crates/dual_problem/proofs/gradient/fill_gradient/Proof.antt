@@ -11,7 +11,7 @@ use Rattle.integers.specs.Written.{written}
 use Rattle.integers.proofs.Laws.Written.{length-written}
 use Rattle.dual_problem.specs.Size.{gradientMost}
 use Rattle.dual_problem.specs.Problem.{gradient as gradientOf, at}
-use Rattle.dual_problem.specs.Items.{problemOf}
+use Rattle.dual_problem.specs.FileProblem.{problemOf}
 use Rattle.dual_problem.proofs.gradient.fill_gradient.Statement.{statement}
 use Rattle.dual_problem.proofs.gradient.fill_gradient.Tie as tie
 

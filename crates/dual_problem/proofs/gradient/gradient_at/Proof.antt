@@ -11,7 +11,7 @@ use Rattle.integers.proofs.Laws.Bounds.{fits-width, reads-back, -ℤ-bound}
 use Rattle.training_file.specs.Parameters.{gridMost}
 use Rattle.dual_problem.specs.Size.{gradientMost, weighedMost}
 use Rattle.dual_problem.specs.Problem.{Problem, gradient, sign, y, at}
-use Rattle.dual_problem.specs.Items.{kernelWith, problemOf, weighedSum}
+use Rattle.dual_problem.specs.FileProblem.{kernelWith, problemOf, weighedSum}
 use Rattle.dual_problem.proofs.gradient.gradient_at.Statement.{statement}
 use Rattle.dual_problem.proofs.gradient.gradient_at.Tie as tie
 

@@ -10,7 +10,7 @@ use Rattle.integers.proofs.Laws.Bounds.{+ℤ-bound, fits-width, reads-back, rea
 use Rattle.integers.specs.Sum.{sum}
 use Rattle.dual_problem.specs.Size.{termMost, weighedMost}
 use Rattle.dual_problem.specs.Problem.{Problem, y, at}
-use Rattle.dual_problem.specs.Items.{kernelWith, problemOf, weighedSum}
+use Rattle.dual_problem.specs.FileProblem.{kernelWith, problemOf, weighedSum}
 use Rattle.dual_problem.proofs.gradient.weighed_sum.Statement.{statement}
 use Rattle.dual_problem.proofs.gradient.weighed_sum.Tie as tie
 

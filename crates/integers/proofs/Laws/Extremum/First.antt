@@ -7,7 +7,7 @@ use mathlib.Core.Option.{Option, none, some}
 use Prim.Native.Nat.{ℕ, zero, suc, _<_}
 use native.Mathlib.Nat.{le-refl, le-antisymm, le-of-suc-le-suc, eq-or-lt-of-le}
 use native.Mathlib.Omega.{arith, by-contra}
-use Rattle.integers.proofs.Laws.Test.{clash}
+use Rattle.integers.proofs.Laws.Truth.{clash}
 use Rattle.integers.specs.Extremum.{orPlace, first}
 
 -- place k is the first that passes

@@ -13,8 +13,8 @@ use Rattle.reading.proofs.Laws.Reading.{accepted-is}
 use Rattle.reading.proofs.Laws.Reading.Accepted.{accepted-ranges, items-most}
 use Rattle.dual_problem.specs.Problem.{problem, at}
 use Rattle.dual_problem.proofs.Laws.Problem.Ceilings.{feasible-most}
-use Rattle.smo.specs.Run.{training}
-use Rattle.smo.specs.Answer.{trainedOf}
+use Rattle.smo.specs.Run.{runFromZeros}
+use Rattle.smo.specs.Answers.{trainedOf}
 use Rattle.training.proofs.Laws.Train.{accepted-sound}
 use Rattle.text.specs.Parts.{parts}
 use Rattle.totals.proofs.Laws.Totals.{sums-equal}
@@ -34,7 +34,7 @@ pub accepted-adds-up : (file : List ℕ) (p : Parameters) (order : List ℕ) (it
 unfolding listing listingOf
 accepted-adds-up file p order items e =
     let a = accepted-is file p order items e in
-    let outcome = training (problem p items) (p .tolerance) (p .budget) in
+    let outcome = runFromZeros (problem p items) (p .tolerance) (p .budget) in
     let shown = shownAt order items (at (outcome .multipliers)) in
     let feasible = accepted-sound file p order items e .bounded .feasible in
     subst (λ r. AddsUp (listingOf r)) (sym e)

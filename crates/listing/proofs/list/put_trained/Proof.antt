@@ -7,8 +7,8 @@ use borrow.Author.Needs.{needs}
 use Rattle.buffer.proofs.Laws.Put.{put-as, put-then, room-as, room-first, room-then}
 use Rattle.reading.specs.Reading.{reading}
 use Rattle.reading.specs.Calls.{itemsIn}
-use Rattle.dual_problem.specs.Items.{Listed}
-use Rattle.dual_problem.proofs.Laws.Items.Read.{reading-listed}
+use Rattle.dual_problem.specs.FileProblem.{Listed}
+use Rattle.dual_problem.proofs.Laws.FileProblem.Read.{reading-listed}
 use Rattle.lines.specs.Lines.{itemsWithTotal, shownIn}
 use Rattle.listing.specs.Listing.{itemCount, listing}
 use Rattle.listing.proofs.Laws.Listing.{count-items}

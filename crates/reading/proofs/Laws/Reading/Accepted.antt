@@ -20,7 +20,7 @@ use Rattle.training_file.proofs.Laws.Record.{every-at, features-sixteen, record
 use Rattle.training_file.specs.Header.{parametersOf}
 use Rattle.training_file.proofs.Laws.Header.{header-parameters}
 use Rattle.chain.proofs.Laws.Chain.{chain-ends, chain-length}
-use Rattle.chain.proofs.Laws.Stages.{order-stored}
+use Rattle.chain.proofs.Laws.Answers.{order-stored}
 use Rattle.reading.specs.Reading.{reading}
 use Rattle.reading.specs.Calls.{Tabled, itemsIn}
 use Rattle.reading.proofs.Laws.Reading.{AcceptedFile}

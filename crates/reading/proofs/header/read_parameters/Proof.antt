@@ -7,7 +7,7 @@ use native.Mathlib.Omega.{arith}
 use borrow.Author.Needs.{needs}
 use borrow.Author.Tests.{not-true, not-false}
 use Rattle.training_file.specs.declared.parameters.Parameters.{Parameters}
-use Rattle.training_file.specs.Layout.{featuresInUse, firstRecord, kernelByte, recordsStored, secondUnits, spare}
+use Rattle.training_file.specs.Layout.{featuresInUse, firstRecord, kernelByte, recordsStored, secondCeilingUnits, spare}
 use Rattle.training_file.specs.Parameters.{kernelAllowed, kernelOfByte, parametersAllowed}
 use Rattle.training_file.specs.Header.{headerAllowed, parametersOf}
 use Rattle.training_file.proofs.Laws.Answers.{kernel-known, kernel-unknown}
@@ -110,12 +110,12 @@ module _ (c : tie.After-allowed) where
         kernel = known .answer .given .0 .0;
         grid = c .before .before .before .before .before .u32-at .result;
         ceiling = c .before .before .before .before .u32-at2 .result;
-        second = c .before .before .before .u32-at3 .result;
+        «second_ceiling» = c .before .before .before .u32-at3 .result;
         tolerance = c .before .before .u64-at .result;
         budget = c .before .u32-at4 .result;
       }
 
-  second-is : c .before .before .before .u32-at3 .result ≡ secondUnits bytes
+  second-is : c .before .before .before .u32-at3 .result ≡ secondCeilingUnits bytes
   second-is = c .before .before .before .u32-at3 .ensures
 
   read-is : read ≡ parametersOf bytes
@@ -125,7 +125,7 @@ module _ (c : tie.After-allowed) where
         kernel = sym (kernel-is .1) i;
         grid = c .before .before .before .before .before .u32-at .ensures i;
         ceiling = c .before .before .before .before .u32-at2 .ensures i;
-        second = second-is i;
+        «second_ceiling» = second-is i;
         tolerance = c .before .before .u64-at .ensures i;
         budget = c .before .u32-at4 .ensures i;
       }

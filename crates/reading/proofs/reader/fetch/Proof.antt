@@ -12,15 +12,15 @@ mul-number c = search needs
 shared-slice-read-number : tie.Need-shared-slice-read-number
 shared-slice-read-number c = search needs
 
-cast-fetch : tie.Need-cast-fetch
-cast-fetch c = omega (arith, c .shared-slice-known3 .given (c .before .before .before .args .place))
+cast-item-at : tie.Need-cast-item-at
+cast-item-at c = omega (arith, c .shared-slice-known3 .given (c .before .before .before .args .place))
 
-fetch-requires : tie.Need-fetch-requires
-fetch-requires c κs = tabled-stored _ _ _ (c .before .before .before .pre)
+item-at-requires : tie.Need-item-at-requires
+item-at-requires c κs = tabled-stored _ _ _ (c .before .before .before .pre)
 
 returns : tie.Need-returns
-returns c = c .fetch .ensures ∙ tabled-item _ _ _ (c .before .before .before .before .pre)
+returns c = c .item-at .ensures ∙ tabled-item _ _ _ (c .before .before .before .before .pre)
 
 pub fetch-spec : {M : Type 1} → statement M
 fetch-spec =
-    tie.close (tie.spec mul-number shared-slice-read-number cast-fetch fetch-requires returns)
+    tie.close (tie.spec mul-number shared-slice-read-number cast-item-at item-at-requires returns)

@@ -13,15 +13,15 @@ mul-number c = search needs
 shared-slice-read-number : tie.Need-shared-slice-read-number
 shared-slice-read-number c = search needs
 
-cast-fetch-label : tie.Need-cast-fetch-label
-cast-fetch-label c = omega (arith, c .shared-slice-known3 .given (c .before .before .before .args .place))
+cast-label-at : tie.Need-cast-label-at
+cast-label-at c = omega (arith, c .shared-slice-known3 .given (c .before .before .before .args .place))
 
-fetch-label-requires : tie.Need-fetch-label-requires
-fetch-label-requires c κs = tabled-stored _ _ _ (c .before .before .before .pre)
+label-at-requires : tie.Need-label-at-requires
+label-at-requires c κs = tabled-stored _ _ _ (c .before .before .before .pre)
 
 returns : tie.Need-returns
-returns c = c .fetch-label .ensures ∙ ap (λ (item : Item). item .label) (tabled-item _ _ _ (c .before .before .before .before .pre))
+returns c = c .label-at .ensures ∙ ap (λ (item : Item). item .label) (tabled-item _ _ _ (c .before .before .before .before .pre))
 
 pub fetch-label-spec : {M : Type 1} → statement M
 fetch-label-spec =
-    tie.close (tie.spec mul-number shared-slice-read-number cast-fetch-label fetch-label-requires returns)
+    tie.close (tie.spec mul-number shared-slice-read-number cast-label-at label-at-requires returns)

@@ -20,8 +20,8 @@ use Rattle.training_file.proofs.Laws.Item.{labels-all, labels-both, labels-none
 use Rattle.training_file.proofs.Laws.Header.{allowed-whole}
 use Rattle.chain.specs.Walk.{ends}
 use Rattle.chain.specs.Chain.{chainOf}
-use Rattle.chain.specs.Stages.{Chained, judgeAnswer, orderOf, walkAnswer}
-use Rattle.chain.proofs.Laws.Stages.{walk-counted, walk-refused}
+use Rattle.chain.specs.Answers.{Chained, judgeAnswer, orderOf, walkAnswer}
+use Rattle.chain.proofs.Laws.Answers.{walk-counted, walk-refused}
 use Rattle.reading.specs.declared.reader.FileAnswer.the-variants.{Refused, Accepted}
 use Rattle.reading.specs.Header.{parametersRefusal}
 use Rattle.reading.specs.Reading.{reading}
@@ -61,7 +61,7 @@ module _ (c : tie.After-known-told2) where
   chained = record { file-whole = whole (c .before .before .before .before .before .before .before .before); ended = walked .0; counted = walked .1 }
 
 -- the judging of the records, whose features in use are the parameters'
-module _ (c : tie.After-judge) where
+module _ (c : tie.After-judge-records) where
   abbrev file-4 : List ℕ
   file-4 = file-3 (c .before)
 
@@ -71,9 +71,9 @@ module _ (c : tie.After-judge) where
   abbrev lookedUp : ℕ
   lookedUp = 0 + labelled LookedUp (map (itemAt file-4) (orderOf file-4))
 
-  judging : c .judge .result ≡ countIf allowed 4 lookedUp
+  judging : c .judge-records .result ≡ countIf allowed 4 lookedUp
   judging =
-      c .judge .ensures
+      c .judge-records .ensures
       ∙ ap (λ (p : Parameters). judgeAnswer (p .used) file-4 0 (orderOf file-4)) (sym (header (c .before .before .before .before .before) .1))
 
   -- the stages before it, for the laws of reading
@@ -165,8 +165,8 @@ returns-3 c =
     ap Refused (c .refusal3 .ensures ∙ ap countRefusal (answered ∙ ap walkAnswer (fails .1 .1)))
     ∙ sym (ap fileAnswer (reads-broken (file-2 past) (sized (past .before .before .before .before)) (header past .0) (fails .0) (fails .1 .0) (fails .1 .1)))
 
-judge-requires : tie.Need-judge-requires
-judge-requires c κs = chained c
+judge-records-requires : tie.Need-judge-records-requires
+judge-records-requires c κs = chained c
 
 enum-known-judged : tie.Need-enum-known-judged
 enum-known-judged c = search needs
@@ -217,7 +217,7 @@ read-spec =
     enum-told-4
     refusal-requires-3
     returns-3
-    judge-requires
+    judge-records-requires
     enum-known-judged
     enum-told-5
     refusal-requires-4

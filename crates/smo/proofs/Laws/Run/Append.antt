@@ -17,8 +17,8 @@ use Rattle.dual_problem.proofs.Laws.Problem.Same.{gradient-cong, objective-cong
 use Rattle.working_pair.specs.Step.{curvature, moves, lowered, raised, moved, fall, rise, room, amount, candidate, firstCandidate, workingPair, iLow, iUp}
 use Rattle.working_pair.proofs.Laws.Step.{moved-length}
 use Rattle.working_pair.proofs.Laws.Step.WorkingPair.{first-candidate-sound, first-candidate-none, first-candidate-complete, first-candidate-absent, working-pair-sound}
-use Rattle.smo.specs.Run.{Next, ends, goesOn, next, Outcome, oneStepMore, run}
-use Rattle.smo.proofs.Laws.Run.{next-converged, next-stuck, next-moves, run-ends, run-spent, run-goes-on, step-long}
+use Rattle.smo.specs.Run.{Turn, stops, continues, turn, Outcome, oneStepMore, run}
+use Rattle.smo.proofs.Laws.Run.{turn-converged, turn-stuck, turn-moves, run-ends, run-spent, run-goes-on, step-long}
 
 -- ---- the step, with `rest` behind the multipliers
 module _ (P : Problem) (rest : List ℕ) where
@@ -101,44 +101,44 @@ module _ (P : Problem) (rest : List ℕ) where
   abbrev withRest : Outcome → Outcome
   withRest o = record { ending = o .ending; steps = o .steps; multipliers = o .multipliers ++ rest }
 
-  appendNext : Next → Next
-  appendNext (ends e) = ends e
-  appendNext (goesOn b) = goesOn (b ++ rest)
+  appendTurn : Turn → Turn
+  appendTurn (stops e) = stops e
+  appendTurn (continues b) = continues (b ++ rest)
 
   module _ (t : ℕ) where
-    next-append : (a : List ℕ) → P .count ≤ length a → next P t (a ++ rest) ≡ appendNext (next P t a)
-    unfolding appendNext
-    next-append a long = by-gap (leZ (bLow P (at a)) (bUp P (at a) +ℤ pos (2 * t))) refl
+    turn-append : (a : List ℕ) → P .count ≤ length a → turn P t (a ++ rest) ≡ appendTurn (turn P t a)
+    unfolding appendTurn
+    turn-append a long = by-gap (leZ (bLow P (at a)) (bUp P (at a) +ℤ pos (2 * t))) refl
       where
         gap-same : leZ (bLow P (at (a ++ rest))) (bUp P (at (a ++ rest)) +ℤ pos (2 * t)) ≡ leZ (bLow P (at a)) (bUp P (at a) +ℤ pos (2 * t))
         gap-same = λ d. leZ (b-low-cong P (at (a ++ rest)) (at a) (same a long) d) (b-up-cong P (at (a ++ rest)) (at a) (same a long) d +ℤ pos (2 * t))
 
-        by-pair : leZ (bLow P (at a)) (bUp P (at a) +ℤ pos (2 * t)) ≡ false → (o : Option (ℕ × ℕ)) → workingPair P a ≡ o → next P t (a ++ rest) ≡ appendNext (next P t a)
-        by-pair e none f = next-stuck P t (a ++ rest) (gap-same ∙ e) (working-pair-append a long ∙ f) ∙ ap appendNext (sym (next-stuck P t a e f))
+        by-pair : leZ (bLow P (at a)) (bUp P (at a) +ℤ pos (2 * t)) ≡ false → (o : Option (ℕ × ℕ)) → workingPair P a ≡ o → turn P t (a ++ rest) ≡ appendTurn (turn P t a)
+        by-pair e none f = turn-stuck P t (a ++ rest) (gap-same ∙ e) (working-pair-append a long ∙ f) ∙ ap appendTurn (sym (turn-stuck P t a e f))
         by-pair e (some ij) f =
             let c = working-pair-sound P a f in
-            next-moves P t (a ++ rest) (gap-same ∙ e) (working-pair-append a long ∙ f)
-            ∙ ap goesOn
+            turn-moves P t (a ++ rest) (gap-same ∙ e) (working-pair-append a long ∙ f)
+            ∙ ap continues
             (ap (moved P (a ++ rest) (ij .0) (ij .1)) (amount-append a long (ij .0) (ij .1) (c .i-within) (c .j-within))
             ∙ moved-append a long (ij .0) (ij .1) (c .i-within) (c .j-within) (amount P a (ij .0) (ij .1)))
-            ∙ ap appendNext (sym (next-moves P t a e f))
+            ∙ ap appendTurn (sym (turn-moves P t a e f))
 
-        by-gap : (b : Bool) → leZ (bLow P (at a)) (bUp P (at a) +ℤ pos (2 * t)) ≡ b → next P t (a ++ rest) ≡ appendNext (next P t a)
-        by-gap true e = next-converged P t (a ++ rest) (gap-same ∙ e) ∙ ap appendNext (sym (next-converged P t a e))
+        by-gap : (b : Bool) → leZ (bLow P (at a)) (bUp P (at a) +ℤ pos (2 * t)) ≡ b → turn P t (a ++ rest) ≡ appendTurn (turn P t a)
+        by-gap true e = turn-converged P t (a ++ rest) (gap-same ∙ e) ∙ ap appendTurn (sym (turn-converged P t a e))
         by-gap false e = by-pair e (workingPair P a) refl
 
     -- a run with `rest` behind the multipliers is the run without, with `rest` behind what it leaves
     pub run-append : (limit : ℕ) (a : List ℕ) → P .count ≤ length a → run P t limit (a ++ rest) ≡ record { ending = run P t limit a .ending; steps = run P t limit a .steps; multipliers = run P t limit a .multipliers ++ rest }
-    unfolding appendNext
-    run-append zero a long = by-next (next P t a) refl
+    unfolding appendTurn
+    run-append zero a long = by-turn (turn P t a) refl
       where
-        by-next : (n : Next) → next P t a ≡ n → run P t 0 (a ++ rest) ≡ withRest (run P t 0 a)
-        by-next (ends e) h = run-ends P t 0 (a ++ rest) (next-append a long ∙ ap appendNext h) ∙ ap withRest (sym (run-ends P t 0 a h))
-        by-next (goesOn b) h = run-spent P t (a ++ rest) (next-append a long ∙ ap appendNext h) ∙ ap withRest (sym (run-spent P t a h))
-    run-append (suc limit) a long = by-next (next P t a) refl (run-append limit)
+        by-turn : (n : Turn) → turn P t a ≡ n → run P t 0 (a ++ rest) ≡ withRest (run P t 0 a)
+        by-turn (stops e) h = run-ends P t 0 (a ++ rest) (turn-append a long ∙ ap appendTurn h) ∙ ap withRest (sym (run-ends P t 0 a h))
+        by-turn (continues b) h = run-spent P t (a ++ rest) (turn-append a long ∙ ap appendTurn h) ∙ ap withRest (sym (run-spent P t a h))
+    run-append (suc limit) a long = by-turn (turn P t a) refl (run-append limit)
       where
-        by-next : (n : Next) → next P t a ≡ n → ((b : List ℕ) → P .count ≤ length b → run P t limit (b ++ rest) ≡ withRest (run P t limit b)) → run P t (suc limit) (a ++ rest) ≡ withRest (run P t (suc limit) a)
-        by-next (ends e) h ih = run-ends P t (suc limit) (a ++ rest) (next-append a long ∙ ap appendNext h) ∙ ap withRest (sym (run-ends P t (suc limit) a h))
-        by-next (goesOn b) h ih =
-            run-goes-on P t limit (a ++ rest) (next-append a long ∙ ap appendNext h) ∙ ap oneStepMore (ih b (step-long P t a h long))
+        by-turn : (n : Turn) → turn P t a ≡ n → ((b : List ℕ) → P .count ≤ length b → run P t limit (b ++ rest) ≡ withRest (run P t limit b)) → run P t (suc limit) (a ++ rest) ≡ withRest (run P t (suc limit) a)
+        by-turn (stops e) h ih = run-ends P t (suc limit) (a ++ rest) (turn-append a long ∙ ap appendTurn h) ∙ ap withRest (sym (run-ends P t (suc limit) a h))
+        by-turn (continues b) h ih =
+            run-goes-on P t limit (a ++ rest) (turn-append a long ∙ ap appendTurn h) ∙ ap oneStepMore (ih b (step-long P t a h long))
             ∙ ap withRest (sym (run-goes-on P t limit a h))

@@ -13,8 +13,8 @@ use mir.Val.{toZ, ofZ}
 use Rattle.integers.proofs.Laws.Bounds.{+ℤ-bound, fits-width, reads-back}
 use Rattle.dual_problem.specs.Size.{gradientMost}
 use Rattle.dual_problem.specs.Problem.{Problem, gradient, bUp, bLow, at}
-use Rattle.dual_problem.specs.Items.{problemOf}
-use Rattle.dual_problem.proofs.Laws.Items.{b-low-size, b-up-size}
+use Rattle.dual_problem.specs.FileProblem.{problemOf}
+use Rattle.dual_problem.proofs.Laws.FileProblem.{b-low-size, b-up-size}
 use Rattle.thresholds.specs.Extremes.{bestValue}
 use Rattle.thresholds.proofs.Laws.Extremes.{low-value, up-value}
 use Rattle.working_pair.specs.declared.pair.Pair.{Pair}

@@ -12,7 +12,7 @@ use Rattle.integers.specs.Written.{written}
 use Rattle.integers.proofs.Laws.Written.{length-written, written-same, written-over}
 use Rattle.training_file.specs.declared.parameters.Parameters.{Parameters}
 use Rattle.dual_problem.specs.Problem.{Problem, gradient as gradientOf, at}
-use Rattle.dual_problem.specs.Items.{problemOf}
+use Rattle.dual_problem.specs.FileProblem.{problemOf}
 use Rattle.thresholds.specs.Extremes.{bestValue}
 use Rattle.thresholds.proofs.Laws.Extremes.{low-value, up-value}
 use Rattle.working_pair.specs.Step.{Candidate}
@@ -22,10 +22,10 @@ use Rattle.smo_step.specs.Update.{stepped}
 use Rattle.smo_step.proofs.Laws.Update.{step-state}
 use Rattle.smo.specs.declared.ending.Ending.{Ending}
 use Rattle.smo.specs.declared.run.Trained.{Trained}
-use Rattle.smo.specs.Run.{Outcome, next, goesOn, run as runOf}
+use Rattle.smo.specs.Run.{Outcome, turn, continues, run as runOf}
 use Rattle.smo.specs.Run.Meaning.{moreSteps}
-use Rattle.smo.specs.Answer.{decisionEnding, leftWhole, trainedOf, trainedWith}
-use Rattle.smo.proofs.Laws.Answer.{decision-ends, decision-moves, loop-ends, loop-spent, loop-steps}
+use Rattle.smo.specs.Answers.{decisionEnding, leftWhole, trainedOf, trainedWith}
+use Rattle.smo.proofs.Laws.Answers.{decision-ends, decision-moves, loop-ends, loop-spent, loop-steps}
 use Rattle.smo.proofs.run.run.Statement.{statement}
 use Rattle.smo.proofs.run.run.Tie as tie
 
@@ -173,7 +173,7 @@ same-length-4 c = lengths (c .before .before .before .before .before) .1
 
 -- ---- a pair that moves
 module _ (c : tie.After-known-told Inv-loop μ-loop) where
-  moving : (next (P (c .before .before .before)) (t (c .before .before .before)) (a (c .before .before .before)) ≡ goesOn (stepped (P (c .before .before .before)) (a (c .before .before .before)) (c .before .decision .given .0 .0) (c .before .decision .given .0 .1 .0)))
+  moving : (turn (P (c .before .before .before)) (t (c .before .before .before)) (a (c .before .before .before)) ≡ continues (stepped (P (c .before .before .before)) (a (c .before .before .before)) (c .before .decision .given .0 .0) (c .before .decision .given .0 .1 .0)))
       × Candidate (P (c .before .before .before)) (a (c .before .before .before)) (c .before .decision .given .0 .0) (c .before .decision .given .0 .1 .0)
   unfolding s P t a
   moving = let d = c .before .before .before in decision-moves (P d) (t d) (a d) (sym (d .decide .ensures) ∙ c .before .decision .given .1)

@@ -16,7 +16,7 @@ use Rattle.training_file.specs.Item.{itemIn}
 use Rattle.reading.specs.Reading.{reading}
 use Rattle.reading.specs.Calls.{itemsIn}
 use Rattle.dual_problem.specs.Problem.{Problem, ceilingOf, at}
-use Rattle.dual_problem.specs.Items.{problemOf}
+use Rattle.dual_problem.specs.FileProblem.{problemOf}
 use Rattle.working_pair.specs.Step.{slope, lowered, raised, fall, rise, amount}
 use Rattle.working_pair.specs.Curvature.{curvatureBetween}
 use Rattle.working_pair.specs.Division.{divided, PairGiven}

@@ -16,7 +16,7 @@ use mir.Val.{toZ, ofZ}
 use Rattle.integers.proofs.Laws.Bounds.{reads-element}
 use Rattle.integers.specs.Extremum.{extreme, beside}
 use Rattle.dual_problem.specs.Problem.{up, low, at}
-use Rattle.dual_problem.specs.Items.{problemOf}
+use Rattle.dual_problem.specs.FileProblem.{problemOf}
 use Rattle.thresholds.specs.declared.extremes.Best.{Best}
 use Rattle.thresholds.specs.Extremes.{bestOf, bestBeside, comesFirst}
 use Rattle.thresholds.proofs.Laws.Extremes.{best-beside}

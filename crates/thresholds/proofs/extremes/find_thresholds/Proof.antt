@@ -10,7 +10,7 @@ use borrow.Author.Needs.{needs}
 use Rattle.integers.proofs.Laws.Bounds.{reads-element}
 use Rattle.integers.proofs.Laws.Written.{written-at}
 use Rattle.dual_problem.specs.Problem.{Problem, gradient, at}
-use Rattle.dual_problem.specs.Items.{problemOf}
+use Rattle.dual_problem.specs.FileProblem.{problemOf}
 use Rattle.thresholds.specs.Extremes.{bestValue}
 use Rattle.thresholds.proofs.Laws.Extremes.{low-value, up-value}
 use Rattle.thresholds.proofs.extremes.find_thresholds.Statement.{statement}

@@ -3,7 +3,7 @@ use mathlib.Core.Path.{_≡_, _∙_, ap}
 use borrow.Author.Needs.{needs}
 use Rattle.training_file.specs.Item.{opposite}
 use Rattle.dual_problem.specs.Problem.{Problem, ceilingOf, inUp, at}
-use Rattle.dual_problem.specs.Items.{problemOf}
+use Rattle.dual_problem.specs.FileProblem.{problemOf}
 use Rattle.thresholds.proofs.extremes.sets_at.Statement.{statement}
 use Rattle.thresholds.proofs.extremes.sets_at.Tie as tie
 

@@ -7,10 +7,10 @@ use borrow.Author.Tests.{le-leb, lt-leb}
 use lib.Dec.{leb}
 use lib.IntN.{ℤ}
 use lib.ListN.{length}
-use Rattle.integers.proofs.Laws.Test.{&&-true, &&-false-left, &&-false-right}
+use Rattle.integers.proofs.Laws.Truth.{&&-true, &&-false-left, &&-false-right}
 use Rattle.reading.specs.Reading.{reading}
 use Rattle.reading.proofs.Laws.Calls.{first-refused}
-use Rattle.dual_problem.proofs.Laws.Items.Read.{order-listed}
+use Rattle.dual_problem.proofs.Laws.FileProblem.Read.{order-listed}
 use Rattle.training.specs.Train.{TrainingLeft, TrainingQuality, trainFile, unchanged}
 use Rattle.training.proofs.Laws.Train.{ended, training-quality, train-lengths}
 use Rattle.training.proofs.train.train.Statement.{statement}

@@ -9,10 +9,10 @@ use lib.ListN.{length}
 use Rattle.integers.specs.Written.{written}
 use Rattle.integers.proofs.Laws.Written.{length-written, written-at, written-over}
 use Rattle.dual_problem.specs.Problem.{Problem, gradient as gradientOf, at}
-use Rattle.dual_problem.specs.Items.{MultipliersListed, problemOf}
+use Rattle.dual_problem.specs.FileProblem.{MultipliersListed, problemOf}
 use Rattle.working_pair.specs.State.{State}
-use Rattle.smo.specs.Run.{run as runOf, training}
-use Rattle.smo.specs.Answer.{trainedOf}
+use Rattle.smo.specs.Run.{run as runOf, runFromZeros}
+use Rattle.smo.specs.Answers.{trainedOf}
 use Rattle.training.proofs.Laws.Train.{cleared-at, cleared-feasible, cleared-run, cleared-answer, cleared-gradient}
 use Rattle.training.proofs.train.train_read.Statement.{statement}
 use Rattle.training.proofs.train.train_read.Tie as tie
@@ -104,7 +104,7 @@ returns c =
     let ran = c .before .before .before .run .ensures in
     let multipliers =
     (λ k. runOf (P b) t budget (cleared-is (d e) k) .multipliers) ∙ (λ k. cleared-run (P b) l (long b) t budget k .multipliers)
-    ∙ ap (λ n. written n (at (training (P b) t budget .multipliers)) l) (sym (all-items b)) in
+    ∙ ap (λ n. written n (at (runFromZeros (P b) t budget .multipliers)) l) (sym (all-items b)) in
     let gradient =
     (λ k. written (b .args .count) (gradientOf (P b) (at (runOf (P b) t budget (cleared-is (d e) k) .multipliers))) (filled-is e k))
     ∙ written-over (b .args .count) (gradientOf (P b) (at (runOf (P b) t budget (zeros b) .multipliers))) (gradientOf (P b) (at (zeros b))) (b .args .gradient .now) (pos 0) (b .pre .3)

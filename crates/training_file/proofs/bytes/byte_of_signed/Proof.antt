@@ -7,7 +7,7 @@ use borrow.Author.Tests.{le-leb}
 use lib.IntN.{ℤ, pos, negsuc, natAbs}
 use lib.Signed.{leZ, mag}
 use mir.Syntax.{w8}
-use Rattle.integers.proofs.Laws.Test.{clash}
+use Rattle.integers.proofs.Laws.Truth.{clash}
 use Rattle.integers.proofs.Laws.Sign.{below, less-one-casts, less-one-fits, less-one-reads, not-below, not-below-casts, not-below-reads}
 use Rattle.training_file.specs.Layout.{byteOfSigned}
 use Rattle.training_file.proofs.bytes.byte_of_signed.Statement.{statement}

@@ -12,7 +12,7 @@ use borrow.Author.Tests.{lt-ltb}
 use lib.IntN.{ℤ, pos, negsuc, _+ℤ_, _-ℤ_, _*ℤ_}
 use lib.ListN.{length}
 use lib.Signed.{_≤ℤ_, clashℤ}
-use Rattle.integers.proofs.Laws.Test.{clash, not-true-false}
+use Rattle.integers.proofs.Laws.Truth.{clash, not-true-false}
 use Rattle.integers.proofs.Laws.Solver.{con, _⊕_, _⊗_, _⊖_, x₀, x₁, x₂, x₃}
 use Rattle.integers.proofs.Laws.Linear.{integer, +ℤ-parts, -ℤ-parts, *ℤ-parts}
 use Rattle.integers.proofs.Laws.Order.{ltZ-false, positivity, certificate}

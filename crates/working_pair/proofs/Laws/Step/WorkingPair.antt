@@ -6,7 +6,7 @@ use mathlib.Core.List.{List}
 use mathlib.Core.Option.{Option, none, some}
 use Prim.Native.Nat.{ℕ, _<_}
 use lib.Signed.{ltZ}
-use Rattle.integers.proofs.Laws.Test.{clash, not-true-false}
+use Rattle.integers.proofs.Laws.Truth.{clash, not-true-false}
 use Rattle.integers.specs.Extremum.{first, valueAt}
 use Rattle.integers.proofs.Laws.Extremum.{Extreme, ltZ-strict, gtZ-strict, extreme-sound, extreme-none}
 use Rattle.integers.proofs.Laws.Extremum.First.{First, first-sound, first-none, first-complete, first-absent}

@@ -11,7 +11,7 @@ use borrow.Author.Count.{below-none, below-more}
 use borrow.Author.Needs.{needs}
 use Rattle.integers.proofs.Laws.Extremum.First.{first-none, first-sound}
 use Rattle.dual_problem.specs.Problem.{Problem, up, at}
-use Rattle.dual_problem.specs.Items.{problemOf}
+use Rattle.dual_problem.specs.FileProblem.{problemOf}
 use Rattle.working_pair.specs.declared.pair.Partner.{Partner}
 use Rattle.working_pair.specs.declared.pair.Partner.the-variants as partner
 use Rattle.working_pair.specs.Step.{moves, candidate, firstCandidate}

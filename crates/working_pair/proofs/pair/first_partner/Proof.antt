@@ -8,11 +8,11 @@ use Prim.Native.Nat.{ℕ, _-_, _≤_}
 use native.Mathlib.Numerals.{add-one}
 use native.Mathlib.Omega.{arith}
 use borrow.Author.Needs.{needs}
-use Rattle.integers.proofs.Laws.Test.{&&-true}
+use Rattle.integers.proofs.Laws.Truth.{&&-true}
 use Rattle.integers.specs.Extremum.{first, orPlace}
 use Rattle.integers.proofs.Laws.Extremum.First.{first-none, first-complete}
 use Rattle.dual_problem.specs.Problem.{Problem, up, at}
-use Rattle.dual_problem.specs.Items.{problemOf}
+use Rattle.dual_problem.specs.FileProblem.{problemOf}
 use Rattle.working_pair.specs.Step.{moves}
 use Rattle.working_pair.specs.Pair.{TellsMoves, partnerOf}
 use Rattle.working_pair.proofs.Laws.Pair.{held-fetched}

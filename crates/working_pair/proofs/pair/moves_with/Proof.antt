@@ -21,8 +21,8 @@ use Rattle.dual_problem.specs.Kernel.{kernelBetween}
 use Rattle.dual_problem.proofs.Laws.Kernel.{kernel-reads, kernel-sized}
 use Rattle.dual_problem.specs.Problem.{Problem, gradient, at}
 use Rattle.dual_problem.proofs.Laws.Problem.{problem-gram}
-use Rattle.dual_problem.specs.Items.{problemOf}
-use Rattle.dual_problem.proofs.Laws.Items.{gradient-size, kernel-size}
+use Rattle.dual_problem.specs.FileProblem.{problemOf}
+use Rattle.dual_problem.proofs.Laws.FileProblem.{gradient-size, kernel-size}
 use Rattle.working_pair.specs.Step.{slope, moves}
 use Rattle.working_pair.proofs.Laws.Step.{moves-needs-slope}
 use Rattle.working_pair.specs.Curvature.{curvatureBetween}

@@ -13,7 +13,7 @@ use Rattle.integers.specs.Extremum.{extreme}
 use Rattle.integers.proofs.Laws.Extremum.{Strict, ltZ-strict, gtZ-strict, extreme-sound, extreme-cong}
 use Rattle.training_file.specs.declared.parameters.Parameters.{Parameters}
 use Rattle.dual_problem.specs.Problem.{Problem, gradient, up, low, at}
-use Rattle.dual_problem.specs.Items.{problemOf}
+use Rattle.dual_problem.specs.FileProblem.{problemOf}
 use Rattle.thresholds.specs.declared.extremes.Best.the-variants as best
 use Rattle.thresholds.specs.declared.extremes.Extremes.{Extremes}
 use Rattle.thresholds.specs.Extremes.{bestOf, extremesOf}

@@ -6,7 +6,7 @@ use mir.ValLaws.{toZ-ofZ}
 use Rattle.integers.proofs.Laws.Order.{ltZ-true, ltZ-false, ≤ℤ-≢-<ℤ}
 use Rattle.classifying.specs.declared.classify.Class.{Class}
 use Rattle.classifying.specs.declared.classify.Class.the-variants.{LookedUp, PassedOver, Undecided}
-use Rattle.classifying.specs.Classify.{Means, classOf}
+use Rattle.classifying.specs.Classify.{ClassMeans, classOf}
 use Rattle.classifying.proofs.Laws.Classify.{class-exactly}
 use Rattle.classifying.proofs.classify.Class.of_score.Statement.{statement}
 use Rattle.classifying.proofs.classify.Class.of_score.Tie as tie
@@ -16,8 +16,8 @@ module _ (s : tie.Start) where
   reads : toZ w64 (ofZ w64 (s .args .score)) ≡ s .args .score
   reads = toZ-ofZ w64 (s .args .score) (s .fits .score)
 
-  answered : (class : Class) → Means class (toZ w64 (ofZ w64 (s .args .score))) → class ≡ classOf (s .args .score)
-  answered class h = sym (class-exactly class (s .args .score) .1 (subst (Means class) reads h))
+  answered : (class : Class) → ClassMeans class (toZ w64 (ofZ w64 (s .args .score))) → class ≡ classOf (s .args .score)
+  answered class h = sym (class-exactly class (s .args .score) .1 (subst (ClassMeans class) reads h))
 
 returns : tie.Need-returns
 returns c = answered (c .before) LookedUp (ltZ-true _ _ (c .if1 .taken))

@@ -13,7 +13,7 @@ use lib.ListN.{getD}
 use mir.Syntax.{w8}
 use Rattle.integers.specs.Places.{all}
 use Rattle.integers.proofs.Laws.Bounds.{reads-element}
-use Rattle.integers.proofs.Laws.Test.{&&-false-left, &&-false-right, &&-true}
+use Rattle.integers.proofs.Laws.Truth.{&&-false-left, &&-false-right, &&-true}
 use Rattle.integers.proofs.Laws.Places.{all-fails, all-suc}
 use Rattle.training_file.specs.Layout.{featureCount}
 use Rattle.training_file.specs.Item.{featureAllowed, featuresAllowed, eachFeatureAllowed, zeroPast}
