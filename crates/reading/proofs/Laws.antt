@@ -1,4 +1,4 @@
 -- The laws of the definitions in specs/: those of X are in Laws/X.antt. No contract cites them. Assumes nothing.
-pub mod Header
+pub mod Answers
 pub mod Reading
 pub mod Calls

@@ -3,7 +3,7 @@
 ghost use mathlib.Core.Path.{_≡_};
 ghost use Prim.Native.Nat.{_≤_};
 ghost use lib.ListN.{length};
-ghost use Rattle.reading.specs.Header.{headerAnswer, parametersRefusal, storedAnswer};
+ghost use Rattle.reading.specs.Answers.{headerAnswer, parametersRefusal, storedAnswer};
 use training_file::bytes::u16_at;
 use training_file::bytes::u32_at;
 use training_file::bytes::u64_at;

@@ -21,7 +21,7 @@ use Rattle.training_file.specs.declared.item.Item.{Item}
 use Rattle.training_file.specs.Refusal.{refusal}
 use Rattle.training_file.specs.Layout.{featureCount}
 use Rattle.training_file.specs.Item.{featureAllowed, featuresAllowed, itemAllowed, labelAllowed, zeroPast, itemIn}
-use Rattle.reading.proofs.Laws.Calls.{first-either}
+use Rattle.reading.proofs.Laws.Calls.{file-either}
 use Rattle.dual_problem.specs.Kernel.{kernelBetween}
 use Rattle.dual_problem.proofs.Laws.Kernel.{kernelValue-comm, kernelValue-cong}
 use Rattle.dual_problem.specs.Problem.{LabelsPresent, problem, at}
@@ -157,7 +157,7 @@ zeros-score p items a zeros present word =
 -- with such multipliers a word that isn't refused is undecided
 pub zeros-undecided : (file a : List ℕ) (word : List ℤ) → ((i : ℕ) → at a i ≡ 0) → UndecidedUnlessRefused (classifying file a word)
 zeros-undecided file a word zeros =
-    first-either _ _ file (λ r answer. UndecidedUnlessRefused answer) (λ why e. tt)
+    file-either _ _ file (λ r answer. UndecidedUnlessRefused answer) (λ why e. tt)
     (λ p order items e. chose-either UndecidedUnlessRefused (eqb (length word) (p .used)) (by p items (labels-present file p order items e) (judgement (problem p items) a)) tt)
   where
     by : (p : Parameters) (items : List Item) → LabelsPresent (problem p items) → (j : Judgement) → UndecidedUnlessRefused (classifyJudged p items a word j)

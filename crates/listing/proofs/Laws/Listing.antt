@@ -20,7 +20,7 @@ use Rattle.training_file.specs.Item.{itemIn}
 use Rattle.reading.specs.Reading.{Reading, refused, accepted, reading}
 use Rattle.reading.proofs.Laws.Reading.{accepted-is}
 use Rattle.reading.specs.Calls.{itemsIn, orderIn, fileAnswer}
-use Rattle.reading.proofs.Laws.Calls.{first-either}
+use Rattle.reading.proofs.Laws.Calls.{file-either}
 use Rattle.reading.proofs.Laws.Reading.Accepted.{accepted-ranges, items-counted, items-most, numbers-within}
 use Rattle.dual_problem.specs.Problem.{problem, at}
 use Rattle.dual_problem.proofs.Laws.Problem.Ceilings.{feasible-most}
@@ -54,7 +54,7 @@ Prints a g r left = length (itemsIn r) ≤ length a → length (itemsIn r) ≤ l
 
 pub listing-trained : (file a : List ℕ) (g : List ℤ) → Prints a g (reading file) (trainFile file a g)
 unfolding listing listingOf
-listing-trained file a g = first-either _ _ file (Prints a g) (λ why e h k. refl) (λ p order items e. accepted-prints p order items)
+listing-trained file a g = file-either _ _ file (Prints a g) (λ why e h k. refl) (λ p order items e. accepted-prints p order items)
   where
     accepted-prints : (p : Parameters) (order : List ℕ) (items : List Item) → Prints a g (accepted p order items) (trainItems p items a g)
     accepted-prints p order items h k =

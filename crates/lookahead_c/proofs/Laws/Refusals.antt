@@ -19,7 +19,7 @@ use Rattle.reading.specs.declared.reader.FileAnswer.{FileAnswer}
 use Rattle.reading.specs.declared.reader.FileAnswer.the-variants as read
 use Rattle.reading.specs.Reading.{Reading, refused, accepted, reading}
 use Rattle.reading.specs.Calls.{fileAnswer, fileRefusal}
-use Rattle.reading.proofs.Laws.Calls.{first-either}
+use Rattle.reading.proofs.Laws.Calls.{file-either}
 use Rattle.reading.proofs.Laws.Reading.Fault.{refused-one-of}
 use Rattle.dual_problem.specs.Problem.{Problem, problem, at}
 use Rattle.thresholds.specs.declared.extremes.Thresholds.{Thresholds}
@@ -56,7 +56,7 @@ caused numbers number l u e = one-of-alone numbers number e (λ q. omega arith) 
 pub train-refusals : (file a : List ℕ) (g : List ℤ) → TrainRefusals (trainFile file a g .answer)
 unfolding every
 train-refusals file a g =
-    first-either _ _ file (λ r (left : TrainingLeft). TrainRefusals (left .answer)) (λ why e. one-of-more readingRefuses trainingRefuses why refl (refused-one-of file why e))
+    file-either _ _ file (λ r (left : TrainingLeft). TrainRefusals (left .answer)) (λ why e. one-of-more readingRefuses trainingRefuses why refl (refused-one-of file why e))
     (λ p order items e. chose-either (λ (left : TrainingLeft). TrainRefusals (left .answer)) (leb (length items) (length a) && leb (length items) (length g)) tt
     (caused trainingRefuses 6 (omega arith) (omega arith) refl))
 
@@ -81,7 +81,7 @@ certify-judged P a judged.Feasible n = tt
 pub certify-refusals : (file a : List ℕ) → CertifyRefusals (certifying file a)
 unfolding every
 certify-refusals file a =
-    first-either _ _ file (λ r answer. CertifyRefusals answer) (λ why e. one-of-more readingRefuses certifyingRefuses why refl (refused-one-of file why e))
+    file-either _ _ file (λ r answer. CertifyRefusals answer) (λ why e. one-of-more readingRefuses certifyingRefuses why refl (refused-one-of file why e))
     (λ p order items e. certify-judged (problem p items) a (judgement (problem p items) a) (judged-refusals (problem p items) a))
 
 -- ---- classifying
@@ -100,7 +100,7 @@ module _ (p : Parameters) (items : List Item) (a : List ℕ) (word : List ℤ) w
 pub classify-refusals : (file a : List ℕ) (word : List ℤ) → ClassifyRefusals (classifying file a word)
 unfolding every
 classify-refusals file a word =
-    first-either _ _ file (λ r answer. ClassifyRefusals answer) (λ why e. one-of-more readingRefuses classifyingRefuses why refl (refused-one-of file why e))
+    file-either _ _ file (λ r answer. ClassifyRefusals answer) (λ why e. one-of-more readingRefuses classifyingRefuses why refl (refused-one-of file why e))
     (λ p order items e. classify-items p items a word)
 
 -- ---- the record that a caller sees

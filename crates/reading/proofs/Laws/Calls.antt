@@ -56,23 +56,23 @@ module _ (file table : List ℕ) where
 -- ---- a call that reads its file first
 module _ {A : Type 0} (refusal : Refusal → A) (call : Parameters → List ℕ → List Item → A) where
   -- an answer that refuses the file ends the call with its refusal
-  pub first-refused : (r : Reading) {answer : FileAnswer} {why met : Refusal} → answer ≡ fileAnswer r → answer ≡ outcome.Refused why → met ≡ fileRefusal answer
+  pub file-refused : (r : Reading) {answer : FileAnswer} {why met : Refusal} → answer ≡ fileAnswer r → answer ≡ outcome.Refused why → met ≡ fileRefusal answer
       → refusal met ≡ fileFirst refusal call r
-  first-refused (refused why) a e m = ap refusal (m ∙ ap fileRefusal a)
-  first-refused (accepted p order items) a e m = let z : _≡_ {A = ℕ} 0 1 = cc in absurd (omega arith)
+  file-refused (refused why) a e m = ap refusal (m ∙ ap fileRefusal a)
+  file-refused (accepted p order items) a e m = let z : _≡_ {A = ℕ} 0 1 = cc in absurd (omega arith)
 
   -- one that accepts it leaves the call to what was read
-  pub first-accepted : (r : Reading) {answer : FileAnswer} {p : Parameters} {n : ℕ} → answer ≡ fileAnswer r → answer ≡ outcome.Accepted p n
+  pub file-accepted : (r : Reading) {answer : FileAnswer} {p : Parameters} {n : ℕ} → answer ≡ fileAnswer r → answer ≡ outcome.Accepted p n
       → call p (orderIn r) (itemsIn r) ≡ fileFirst refusal call r
-  first-accepted (refused why) a e = let z : _≡_ {A = ℕ} 0 1 = cc in absurd (omega arith)
-  first-accepted (accepted p′ order items) {p = p} a e = let q : p ≡ p′ = cc in ap (λ x. call x order items) q
+  file-accepted (refused why) a e = let z : _≡_ {A = ℕ} 0 1 = cc in absurd (omega arith)
+  file-accepted (accepted p′ order items) {p = p} a e = let q : p ≡ p′ = cc in ap (λ x. call x order items) q
 
   -- what holds of each refusal of the file and of each call on an accepted one holds of the call
-  pub first-either : (file : List ℕ) (Q : Reading → A → Type 0)
+  pub file-either : (file : List ℕ) (Q : Reading → A → Type 0)
       → ((why : Refusal) → reading file ≡ refused why → Q (refused why) (refusal why))
       → ((p : Parameters) (order : List ℕ) (items : List Item) → reading file ≡ accepted p order items → Q (accepted p order items) (call p order items))
       → Q (reading file) (fileFirst refusal call (reading file))
-  first-either file Q of-refusal of-call = by (reading file) refl
+  file-either file Q of-refusal of-call = by (reading file) refl
     where
       by : (r : Reading) → reading file ≡ r → Q r (fileFirst refusal call r)
       by (refused why) e = of-refusal why e

@@ -19,7 +19,7 @@ use Rattle.reading.specs.declared.reader.FileAnswer.{FileAnswer}
 use Rattle.reading.specs.declared.reader.FileAnswer.the-variants.{Accepted}
 use Rattle.reading.specs.Reading.{accepted, reading}
 use Rattle.reading.specs.Calls.{fileAnswer}
-use Rattle.reading.proofs.Laws.Calls.{first-accepted, first-either}
+use Rattle.reading.proofs.Laws.Calls.{file-accepted, file-either}
 use Rattle.dual_problem.specs.Problem.{Problem, Feasible, problem, gradient, at}
 use Rattle.dual_problem.proofs.Laws.Problem.{problem-gram}
 use Rattle.dual_problem.proofs.Laws.Problem.Same.{gradient-cong, b-up-cong, b-low-cong}
@@ -88,7 +88,7 @@ accepted-sound file p order items e =
 
 pub training-quality : (file a : List ℕ) (g : List ℤ) → TrainingQuality (reading file) (trainFile file a g .answer) (trainFile file a g .multipliers)
 training-quality file a g =
-    first-either _ _ file (λ r (left : TrainingLeft). TrainingQuality r (left .answer) (left .multipliers)) (λ why e. tt)
+    file-either _ _ file (λ r (left : TrainingLeft). TrainingQuality r (left .answer) (left .multipliers)) (λ why e. tt)
     (λ p order items e. by p order items e (leb (length items) (length a) && leb (length items) (length g)) refl)
   where
     by : (p : Parameters) (order : List ℕ) (items : List Item) → reading file ≡ accepted p order items
@@ -120,4 +120,4 @@ pub train-lengths : (file a : List ℕ) (g : List ℤ) {answer : FileAnswer} {p 
 train-lengths file a g {p = p} told e long =
     let counted = sym (answer-accepted file told e .0) in
     (λ k. cond ((sym long ∙ ap (λ m. leb m (length a) && leb m (length g)) counted) k) (ended (trainFrom file p (counted k) a g)) (unchanged (refusal 6) a g))
-    ∙ first-accepted _ _ (reading file) told e
+    ∙ file-accepted _ _ (reading file) told e

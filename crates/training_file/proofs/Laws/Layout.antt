@@ -9,9 +9,9 @@ use lib.Signed.{mag}
 use Rattle.training_file.specs.Layout.{byteOfSigned, signedByte, signedMost}
 
 -- a number of −128 to 127 has its byte, which holds that number: `mag` of −1 − k is k
-pub signed-byte : (z : ℤ) → mag z < signedMost → byteOfSigned z < 256
-signed-byte (pos n) h = omega arith
-signed-byte (negsuc k) h = omega arith
+pub signed-byte-below : (z : ℤ) → mag z < signedMost → byteOfSigned z < 256
+signed-byte-below (pos n) h = omega arith
+signed-byte-below (negsuc k) h = omega arith
 
 pub signed-back : (z : ℤ) → mag z < signedMost → signedByte (byteOfSigned z) ≡ z
 signed-back (pos n) h = rw (lt-ltb n 128 h)

@@ -5,7 +5,7 @@ use mathlib.Core.List.{List}
 use Prim.Native.Nat.{ℕ}
 use borrow.Author.Needs.{needs}
 use Rattle.reading.specs.Reading.{reading}
-use Rattle.reading.proofs.Laws.Calls.{first-accepted, first-refused}
+use Rattle.reading.proofs.Laws.Calls.{file-accepted, file-refused}
 use Rattle.dual_problem.proofs.Laws.FileProblem.Read.{order-listed}
 use Rattle.certifying.specs.declared.certify.Certified.{Certified}
 use Rattle.certifying.specs.Certify.{CertifiedDistance, certifying}
@@ -36,7 +36,7 @@ returns : tie.Need-returns
 returns c =
     let a = c .before .before .before .before .before .before .before .before .args in
     clauses (a .file .now) (a .multipliers .now)
-    (first-refused _ _ (reading (a .file .now)) (c .before .before .before .before .order2 .ensures .0) (c .before .enum-told .given .1) (c .refusal .ensures))
+    (file-refused _ _ (reading (a .file .now)) (c .before .before .before .before .order2 .ensures .0) (c .before .enum-told .given .1) (c .refusal .ensures))
 
 slice-aggregate-certify-read : tie.Need-slice-aggregate-certify-read
 slice-aggregate-certify-read c = search needs
@@ -50,7 +50,7 @@ returns-2 : tie.Need-returns-2
 returns-2 c =
     let a = c .before .before .before .before .before .before .before .before .before .before .args in
     clauses (a .file .now) (a .multipliers .now)
-    (c .certify-read .ensures ∙ first-accepted _ _ (reading (a .file .now)) (c .before .before .before .before .before .before .order2 .ensures .0) (c .before .before .before .answer .given .1))
+    (c .certify-read .ensures ∙ file-accepted _ _ (reading (a .file .now)) (c .before .before .before .before .before .before .order2 .ensures .0) (c .before .before .before .answer .given .1))
 
 pub certify-spec : {M : Type 1} → statement M
 certify-spec =

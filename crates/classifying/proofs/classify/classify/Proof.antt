@@ -3,7 +3,7 @@
 use mathlib.Core.Path.{refl, _∙_}
 use borrow.Author.Needs.{needs}
 use Rattle.reading.specs.Reading.{reading}
-use Rattle.reading.proofs.Laws.Calls.{first-accepted, first-refused}
+use Rattle.reading.proofs.Laws.Calls.{file-accepted, file-refused}
 use Rattle.dual_problem.proofs.Laws.FileProblem.Read.{order-listed}
 use Rattle.classifying.proofs.classify.classify.Statement.{statement}
 use Rattle.classifying.proofs.classify.classify.Tie as tie
@@ -25,7 +25,7 @@ refusal-requires c κs = search needs
 
 returns : tie.Need-returns
 returns c =
-    first-refused _ _ (reading (c .before .before .before .before .before .before .before .before .args .file .now)) (c .before .before .before .before .order2 .ensures .0) (c .before .enum-told .given .1) (c .refusal .ensures)
+    file-refused _ _ (reading (c .before .before .before .before .before .before .before .before .args .file .now)) (c .before .before .before .before .order2 .ensures .0) (c .before .enum-told .given .1) (c .refusal .ensures)
 
 slice-aggregate-classify-read : tie.Need-slice-aggregate-classify-read
 slice-aggregate-classify-read c = search needs
@@ -38,7 +38,7 @@ classify-read-requires c κs =
 returns-2 : tie.Need-returns-2
 returns-2 c =
     let f = c .before .before .before .before .before .before .before .before .before .before .args .file .now in
-    c .classify-read .ensures ∙ first-accepted _ _ (reading f) (c .before .before .before .before .before .before .order2 .ensures .0) (c .before .before .before .answer .given .1)
+    c .classify-read .ensures ∙ file-accepted _ _ (reading f) (c .before .before .before .before .before .before .order2 .ensures .0) (c .before .before .before .answer .given .1)
 
 pub classify-spec : {M : Type 1} → statement M
 classify-spec =

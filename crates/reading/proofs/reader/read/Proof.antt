@@ -23,10 +23,10 @@ use Rattle.chain.specs.Chain.{chainOf}
 use Rattle.chain.specs.Answers.{Chained, judgeAnswer, orderOf, walkAnswer}
 use Rattle.chain.proofs.Laws.Answers.{walk-counted, walk-refused}
 use Rattle.reading.specs.declared.reader.FileAnswer.the-variants.{Refused, Accepted}
-use Rattle.reading.specs.Header.{parametersRefusal}
+use Rattle.reading.specs.Answers.{parametersRefusal}
 use Rattle.reading.specs.Reading.{reading}
 use Rattle.reading.specs.Calls.{fileAnswer}
-use Rattle.reading.proofs.Laws.Header.{header-allowed, header-refused}
+use Rattle.reading.proofs.Laws.Answers.{header-allowed, header-refused}
 use Rattle.reading.proofs.Laws.Reading.{reads-1, reads-2, reads-4, reads-5, reads-all, reads-broken}
 use Rattle.reading.proofs.reader.read.Statement.{statement}
 use Rattle.reading.proofs.reader.read.Tie as tie

@@ -9,7 +9,7 @@ use lib.IntN.{ℤ}
 use lib.ListN.{length}
 use Rattle.integers.proofs.Laws.Truth.{&&-true, &&-false-left, &&-false-right}
 use Rattle.reading.specs.Reading.{reading}
-use Rattle.reading.proofs.Laws.Calls.{first-refused}
+use Rattle.reading.proofs.Laws.Calls.{file-refused}
 use Rattle.dual_problem.proofs.Laws.FileProblem.Read.{order-listed}
 use Rattle.training.specs.Train.{TrainingLeft, TrainingQuality, trainFile, unchanged}
 use Rattle.training.proofs.Laws.Train.{ended, training-quality, train-lengths}
@@ -43,7 +43,7 @@ returns : tie.Need-returns
 returns c =
     let a = c .before .before .before .before .before .before .before .before .args in
     clauses (a .file .now) (a .multipliers .now) (a .gradient .now)
-    (first-refused (λ why. unchanged why (a .multipliers .now) (a .gradient .now)) _ (reading (a .file .now)) (c .before .before .before .before .order2 .ensures .0) (c .before .enum-told .given .1) (c .refusal .ensures))
+    (file-refused (λ why. unchanged why (a .multipliers .now) (a .gradient .now)) _ (reading (a .file .now)) (c .before .before .before .before .order2 .ensures .0) (c .before .enum-told .given .1) (c .refusal .ensures))
 
 returns-2 : tie.Need-returns-2
 returns-2 c =

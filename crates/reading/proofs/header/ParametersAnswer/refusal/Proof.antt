@@ -1,7 +1,7 @@
 -- `reading::header::ParametersAnswer::refusal` meets its contract. Assumes nothing.
 use mathlib.Core.Path.{sym, ap}
 use borrow.Author.Needs.{needs}
-use Rattle.reading.specs.Header.{parametersRefusal}
+use Rattle.reading.specs.Answers.{parametersRefusal}
 use Rattle.reading.proofs.header.ParametersAnswer.refusal.Statement.{statement}
 use Rattle.reading.proofs.header.ParametersAnswer.refusal.Tie as tie
 

@@ -9,7 +9,7 @@ use Rattle.training_file.specs.declared.refusal.Refusal.{Refusal}
 use Rattle.training_file.specs.declared.parameters.Parameters.{Parameters}
 use Rattle.training_file.specs.Header.{headerAllowed, parametersOf}
 use Rattle.reading.specs.declared.header.ParametersAnswer.the-variants.{Refused, Allowed}
-use Rattle.reading.specs.Header.{headerAnswer}
+use Rattle.reading.specs.Answers.{headerAnswer}
 
 module _ (file : List ℕ) where
   pub header-allowed : (p : Parameters) → headerAnswer file ≡ Allowed p → (headerAllowed file ≡ true) × (parametersOf file ≡ p)
