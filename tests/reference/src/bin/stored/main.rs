@@ -17,7 +17,7 @@ use std::path::Path;
 const SEED: u64 = 20_261_115;
 
 /// The standard input of a test program, and the standard output that it must have.
-struct Streams {
+pub struct Streams {
     stdin: Vec<u8>,
     stdout: String,
 }
