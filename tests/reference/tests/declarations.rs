@@ -12,8 +12,7 @@ const EXPORTS: &str = "crates/lookahead_c/src";
 const CERTIFY: &str = "crates/lookahead_c/src/certify.rt";
 const NUMBERING: &str = "crates/lookahead_c/src/numbering.rt";
 const REFUSALS: &str = "crates/training_file/src/refusal.rt";
-const KERNELS: &str = "crates/training_file/src/parameters.rt";
-const ITEMS: &str = "crates/training_file/src/item.rt";
+const PARAMETERS: &str = "crates/training_file/src/parameters.rt";
 const HEADER: &str = "include/lookahead.h";
 const DECLARATIONS: &str = "include/lookahead.rs";
 
@@ -42,7 +41,7 @@ const FIELDS: [(&str, &str); 1] = [("at", "record")];
 /// The constants and variants with other names in both files. All names are in
 /// capitals there, after `LOOKAHEAD_`, and those of refusals after `REFUSED_` too.
 const CONSTANTS: [(&str, &str); 7] = [
-    ("MAX_COUNT", "MOST_ITEMS"),
+    ("MAX_RECORDS", "MOST_ITEMS"),
     ("FILE_LENGTH", "LENGTH"),
     ("LIST_LENGTH", "COUNT"),
     ("MULTIPLIER", "CEILING"),
@@ -67,7 +66,7 @@ fn texts() -> Texts {
         let name = entry.expect("a name").file_name();
         format!("{EXPORTS}/{}", name.to_string_lossy())
     });
-    let others = [REFUSALS, KERNELS, ITEMS, HEADER, DECLARATIONS];
+    let others = [REFUSALS, PARAMETERS, HEADER, DECLARATIONS];
     exports
         .chain(others.map(String::from))
         .map(|path| {
@@ -226,18 +225,13 @@ fn constants_of(source: &str) -> Vec<[String; 3]> {
 /// The most items, the refusals, the kernels, the endings and the classes.
 fn constants(texts: &Texts) -> Vec<Declared> {
     let mut constants = Vec::new();
-    for [name, of_type, number] in constants_of(&texts[ITEMS]) {
-        if name == "MAX_COUNT" {
-            constants.push(constant("", &name, &of_type, &number));
-        }
-    }
     for [name, _, number] in constants_of(&texts[REFUSALS]) {
         if name != "NONE" {
             constants.push(constant("REFUSED_", &name, "u8", &number));
         }
     }
-    for [name, of_type, number] in constants_of(&texts[KERNELS]) {
-        if of_type == "u8" {
+    for [name, of_type, number] in constants_of(&texts[PARAMETERS]) {
+        if of_type == "u8" || name == "MAX_RECORDS" {
             constants.push(constant("", &name, &of_type, &number));
         }
     }
