@@ -1,4 +1,4 @@
--- `chain::walker::link` meets its contract: a walk of its MIR, by hand. The struct is taken apart, and `link::link_at` is called on the slice and the numbers. All that the proof knows of `step_at` is that it meets its contract.
+-- `chain::walker::link` meets its contract: a walk of its MIR, by hand. The struct is taken apart, and `link::link_at` is called on the slice and the numbers. All that the proof knows of `link_at` is that it meets its contract.
 -- The struct is Copy: what it owns is had twice, one copy is kept whole for the exit, and of the other what file owns goes to the callee, beside the lifetime's token, which comes back.
 -- Assumes nothing.
 use mathlib.Core.Path.{_≡_, refl}
