@@ -11,6 +11,7 @@ pub mod Bounds
 pub mod Sign
 pub mod Places
 pub mod Member
+pub mod Tabulate
 pub mod Written
 pub mod Extremum
 pub mod Gram

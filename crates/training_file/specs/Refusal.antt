@@ -34,6 +34,10 @@ certifyingRefuses = 1 ∷ 2 ∷ 3 ∷ 16 ∷ 4 ∷ 5 ∷ 6 ∷ 7 ∷ 8 ∷ []
 abbrev pub classifyingRefuses : List ℕ
 classifyingRefuses = 1 ∷ 2 ∷ 3 ∷ 16 ∷ 4 ∷ 5 ∷ 6 ∷ 7 ∷ 8 ∷ 9 ∷ []
 
+-- "Checks are those of the reader in the order 2, 1 (over 256 items), 4, 5", then 10 (document 02, request (b))
+abbrev pub writingRefuses : List ℕ
+writingRefuses = 2 ∷ 1 ∷ 4 ∷ 5 ∷ 10 ∷ []
+
 -- the record that is carried: with 3 and 16 one of 1 to 256, otherwise none, for which 0 stands, also where nothing is refused
 pub record RecordCarried (why : Refusal) : Type 0 where
   pub at-fault : (why .number ≡ 3) ⊎ (why .number ≡ 16) → (1 ≤ why .at) × (why .at ≤ 256)

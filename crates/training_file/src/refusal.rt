@@ -44,6 +44,9 @@ impl Refusal {
 
     pub const WORD_FEATURE: Refusal = Refusal { number: 9, at: 0 };
 
+    // An output shorter than the file to be written.
+    pub const OUTPUT: Refusal = Refusal { number: 10, at: 0 };
+
     // Whoever wrote the file, again. The number of a next field that leads to a record already met; the refusal is `at_record`'s.
     pub const NEXT_MET: u8 = 16;
 }

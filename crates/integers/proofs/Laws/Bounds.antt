@@ -44,7 +44,7 @@ sum-bound zero f h = omega arith
 sum-bound (suc n) f {B} h = omega (arith, +ℤ-bound (sum n f) (f n) (sum-bound n f (λ i l. h i (omega arith))) (h n (le-refl (suc n))))
 
 -- ---- a signed width w, for a number m that is known to be z
-mag-natAbs : (z : ℤ) → mag z ≤ natAbs z
+pub mag-natAbs : (z : ℤ) → mag z ≤ natAbs z
 mag-natAbs (pos n) = le-refl n
 mag-natAbs (negsuc n) = omega arith
 

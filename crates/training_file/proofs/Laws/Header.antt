@@ -7,7 +7,7 @@ use native.Mathlib.Omega.{arith}
 use lib.Dec.{leb, eqb}
 use lib.ListN.{length}
 use borrow.Author.Tests.{le-leb, lt-leb, eq-eqb, ne-eqb, leb-true, eqb-true}
-use Rattle.integers.proofs.Laws.Truth.{&&-both, &&-left}
+use Rattle.integers.proofs.Laws.Truth.{&&-both, &&-left, &&-right}
 use Rattle.training_file.specs.Layout.{firstRecord, kernelByte, recordsStored, spare}
 use Rattle.training_file.specs.Parameters.{kernelAllowed, parametersAllowed, recordsMost}
 use Rattle.training_file.specs.Header.{WholeFile, headerAllowed, lengthAllowed, parametersOf}
@@ -66,11 +66,20 @@ module _ (file : List ℕ) where
       &&-both (leb (firstRecord file) (recordsStored file) && eqb (spare file) 0 && kernelAllowed (kernelByte file))
       (parametersAllowed (parametersOf file)) h .1
 
+  to-kernel : headerAllowed file ≡ true → leb (firstRecord file) (recordsStored file) && eqb (spare file) 0 && kernelAllowed (kernelByte file) ≡ true
+  unfolding headerAllowed
+  to-kernel h =
+      &&-left (leb (firstRecord file) (recordsStored file) && eqb (spare file) 0 && kernelAllowed (kernelByte file)) (parametersAllowed (parametersOf file)) h
+
+  to-spare : headerAllowed file ≡ true → leb (firstRecord file) (recordsStored file) && eqb (spare file) 0 ≡ true
+  to-spare h = &&-left (leb (firstRecord file) (recordsStored file) && eqb (spare file) 0) (kernelAllowed (kernelByte file)) (to-kernel h)
+
+  pub header-kernel : headerAllowed file ≡ true → kernelAllowed (kernelByte file) ≡ true
+  header-kernel h = &&-right (leb (firstRecord file) (recordsStored file) && eqb (spare file) 0) (kernelAllowed (kernelByte file)) (to-kernel h)
+
+  pub header-spare : headerAllowed file ≡ true → spare file ≡ 0
+  header-spare h = eqb-true (spare file) 0 (&&-right (leb (firstRecord file) (recordsStored file)) (eqb (spare file) 0) (to-spare h))
+
   -- "A first record over m is refused with 2"
   pub header-first : headerAllowed file ≡ true → firstRecord file ≤ recordsStored file
-  unfolding headerAllowed
-  header-first h =
-      let few = leb (firstRecord file) (recordsStored file) in
-      let to-kernel = &&-left (few && eqb (spare file) 0 && kernelAllowed (kernelByte file)) (parametersAllowed (parametersOf file)) h in
-      let to-spare = &&-left (few && eqb (spare file) 0) (kernelAllowed (kernelByte file)) to-kernel in
-      leb-true (firstRecord file) (recordsStored file) (&&-left few (eqb (spare file) 0) to-spare)
+  header-first h = leb-true (firstRecord file) (recordsStored file) (&&-left (leb (firstRecord file) (recordsStored file)) (eqb (spare file) 0) (to-spare h))

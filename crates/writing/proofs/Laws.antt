@@ -1,0 +1,4 @@
+-- The laws of the definitions in specs/: those of X are in Laws/X.antt. No contract cites them. Assumes nothing.
+pub mod Row
+pub mod Call
+pub mod Writing

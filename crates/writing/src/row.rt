@@ -1,0 +1,33 @@
+// An item in memory: what a caller of the writer hands over.
+
+ghost use mathlib.Core.Path.{_≡_};
+ghost use Rattle.training_file.specs.Answers.{itemAnswer};
+ghost use Rattle.writing.specs.Row.{rowFeatures, rowLabel};
+use training_file::bytes::byte_of_signed;
+use training_file::item::Item;
+use training_file::item::ItemAnswer;
+
+// Sixteen features, then the label's number, 1 or 2 as a record has it. It is the memory of a struct of C with these two fields.
+pub const ROW_LENGTH: usize = Item::FEATURE_COUNT + 1;
+
+pub type Row = [i8; ROW_LENGTH];
+
+fn features(row: Row) -> [i8; Item::FEATURE_COUNT]
+    ensures { λ r. ⌜ r ≡ rowFeatures row ⌝ }
+{
+    let mut features = [0i8; Item::FEATURE_COUNT];
+    let mut i = 0;
+    while i < Item::FEATURE_COUNT {
+        features[i] = row[i];
+        i += 1;
+    }
+    features
+}
+
+// The row as an item, judged with the first `used` features in use.
+pub fn item_of(row: Row, used: usize) -> ItemAnswer
+    ensures { λ r. ⌜ r ≡ itemAnswer used (rowLabel row) (rowFeatures row) ⌝ }
+{
+    let label = byte_of_signed(row[Item::FEATURE_COUNT]);
+    Item::new(label, features(row), used)
+}
