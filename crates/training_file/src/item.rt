@@ -2,7 +2,7 @@
 
 ghost use mathlib.Core.Path.{_≡_};
 ghost use Rattle.training_file.specs.declared.item.Label.the-variants.{LookedUp};
-ghost use Rattle.training_file.specs.Item.{byteOfLabel, labelOfByte, opposite as oppositeOf, same};
+ghost use Rattle.training_file.specs.Item.{byteOfLabel, itemOf, labelOfByte, opposite as oppositeOf, same};
 ghost use Rattle.training_file.specs.Item.{featureAllowed, featuresAllowed, labelAllowed, zeroPast};
 ghost use Rattle.training_file.specs.Answers.{itemAnswer, labelRefusal};
 use super::range::within;
@@ -121,18 +121,20 @@ impl Item {
         }
     }
 
-    // Whether the features past the first `used` are 0.
+    // Whether the features past the first `used` are 0: whether the last one that is not 0 is among these. A loop over all sixteen that
+    // never leaves early is done in one go.
     fn zero_past(features: [i8; Item::FEATURE_COUNT], used: usize) -> bool
         ensures { λ r. ⌜ r ≡ zeroPast used features ⌝ }
     {
-        let mut i = used;
+        let mut end = 0;
+        let mut i = 0;
         while i < Item::FEATURE_COUNT {
             if features[i] != 0 {
-                return false;
+                end = i + 1;
             }
             i += 1;
         }
-        true
+        end <= used
     }
 
     // Whether each feature is within its range, and those past the first `used` are 0.
@@ -152,16 +154,23 @@ impl Item {
         true
     }
 
-    // The item of a label's byte and features of which the first `used` are in use, judged.
+    // The item of a label's byte and features that were judged.
+    pub fn of(label: u8, features: [i8; Item::FEATURE_COUNT]) -> Item
+        ensures { λ r. ⌜ r ≡ itemOf label features ⌝ }
+    {
+        Item {
+            label: Label::of_byte(label),
+            features,
+        }
+    }
+
+    // The same of a label's byte and features of which the first `used` are in use, judged.
     pub fn new(label: u8, features: [i8; Item::FEATURE_COUNT], used: usize) -> ItemAnswer
         ensures { λ r. ⌜ r ≡ itemAnswer used label features ⌝ }
     {
         ItemAnswer {
             allowed: Label::allows(label) & Item::allows_all(features, used),
-            item: Item {
-                label: Label::of_byte(label),
-                features,
-            },
+            item: Item::of(label, features),
         }
     }
 }

@@ -90,10 +90,11 @@ pub fn label_at(file: &[u8], number: usize) -> Label
     Label::of_byte(file[start(number) + layout::LABEL])
 }
 
-// The item of a record that was judged. Nobody asks here whether it is allowed, and the compiler leaves that out.
+// The item of a record that was judged.
 pub fn item_at(file: &[u8], number: usize) -> Item
     requires { ⌜ Stored (now file) number ⌝ }
     ensures { λ r. ⌜ r ≡ itemAt (now (file .entry)) number ⌝ }
 {
-    read_item(file, number, Item::FEATURE_COUNT).item
+    let label = file[start(number) + layout::LABEL];
+    Item::of(label, features(file, number))
 }

@@ -2,7 +2,7 @@
 
 ghost use mathlib.Core.Path.{_≡_};
 ghost use Rattle.training_file.specs.Answers.{itemAnswer};
-ghost use Rattle.writing.specs.Row.{rowFeatures, rowLabel};
+ghost use Rattle.writing.specs.Row.{rowFeatures, rowItem, rowLabel};
 use training_file::bytes::byte_of_signed;
 use training_file::item::Item;
 use training_file::item::ItemAnswer;
@@ -24,10 +24,22 @@ fn features(row: Row) -> [i8; Item::FEATURE_COUNT]
     features
 }
 
+fn label(row: Row) -> u8
+    ensures { λ r. ⌜ r ≡ rowLabel row ⌝ }
+{
+    byte_of_signed(row[Item::FEATURE_COUNT])
+}
+
 // The row as an item, judged with the first `used` features in use.
-pub fn item_of(row: Row, used: usize) -> ItemAnswer
+pub fn judge_row(row: Row, used: usize) -> ItemAnswer
     ensures { λ r. ⌜ r ≡ itemAnswer used (rowLabel row) (rowFeatures row) ⌝ }
 {
-    let label = byte_of_signed(row[Item::FEATURE_COUNT]);
-    Item::new(label, features(row), used)
+    Item::new(label(row), features(row), used)
+}
+
+// The item of a row that was judged.
+pub fn item_of(row: Row) -> Item
+    ensures { λ r. ⌜ r ≡ rowItem row ⌝ }
+{
+    Item::of(label(row), features(row))
 }

@@ -9,8 +9,8 @@ ghost use Rattle.written_file.specs.File.{itemRecords};
 ghost use Rattle.writing.specs.Row.{rowItems, rowsAnswer};
 use super::row::Row;
 use super::row::item_of;
+use super::row::judge_row;
 use training_file::count::Count;
-use training_file::item::Item;
 use training_file::refusal::Refusal;
 use written_file::record::following;
 use written_file::record::put_record;
@@ -22,7 +22,7 @@ pub fn judge_rows(rows: &[Row], used: usize) -> Count
     let mut k = 0;
     let mut looked_up = 0;
     while k < rows.len() {
-        let answer = item_of(rows[k], used);
+        let answer = judge_row(rows[k], used);
         if !answer.allowed {
             return Count::Refused(Refusal::RECORD);
         }
@@ -34,16 +34,18 @@ pub fn judge_rows(rows: &[Row], used: usize) -> Count
     Count::Counted(looked_up)
 }
 
-// The records of judged rows, one after the other. Nobody asks here whether they are allowed, and the compiler leaves that out.
+// The records of judged rows, one after the other.
 pub fn put_rows(out: &mut [u8], start: usize, rows: &[Row]) -> usize
     requires room { ⌜ Room (itemRecords (rowItems (now rows)) (length (now rows)) (length (now rows))) start (now out) ⌝ }
     requires most { ⌜ length (now rows) ≤ recordsMost ⌝ }
-    ensures { λ r. ⌜ Put (itemRecords (rowItems (now (rows .entry))) (length (now (rows .entry))) (length (now (rows .entry)))) start (now (out .entry)) (now (out .exit)) r ⌝ }
+    ensures { λ r.
+        ⌜ Put (itemRecords (rowItems (now (rows .entry))) (length (now (rows .entry))) (length (now (rows .entry)))) start
+        (now (out .entry)) (now (out .exit)) r ⌝ }
 {
     let mut at = start;
     let mut k = 0;
     while k < rows.len() {
-        let item = item_of(rows[k], Item::FEATURE_COUNT).item;
+        let item = item_of(rows[k]);
         at = put_record(out, at, following(rows.len(), k + 1), item);
         k += 1;
     }

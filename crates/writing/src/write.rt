@@ -16,7 +16,9 @@ use written_file::output::file_length;
 // The length of the file, which stands at the output's start; the bytes past it are left as they were. On a refusal all of them are.
 pub fn write(parameters: Parameters, items: &[Row], output: &mut [u8]) -> Count
     ensures answer { λ r. ⌜ r ≡ writtenAnswer (writing parameters (now (items .entry)) (length (now (output .entry)))) ⌝ }
-    ensures output { λ r. ⌜ now (output .exit) ≡ outputAfter (writing parameters (now (items .entry)) (length (now (output .entry)))) (now (output .entry)) ⌝ }
+    ensures output { λ r.
+        ⌜ now (output .exit)
+        ≡ outputAfter (writing parameters (now (items .entry)) (length (now (output .entry)))) (now (output .entry)) ⌝ }
 {
     if !parameters.allowed() {
         return Count::Refused(Refusal::HEADER);

@@ -38,7 +38,7 @@ recordBytes next label features = bytes2 next ++ (label ∷ []) ++ (0 ∷ []) ++
 abbrev pub itemRecord : (next : ℕ) → Item → List ℕ
 itemRecord next item = recordBytes next (byteOfLabel (item .label)) (item .features)
 
--- the first k of n records, one after the other, by what record k + 1 of the next number given is
+-- the first k of n records, one after the other: record k + 1 has the bytes `recordAt next k`, by its next number
 unfoldable pub recordsTo : (n : ℕ) → ((next k : ℕ) → List ℕ) → ℕ → List ℕ
 recordsTo n recordAt zero = []
 recordsTo n recordAt (suc k) = recordsTo n recordAt k ++ recordAt (following n (suc k)) k

@@ -28,7 +28,7 @@ module _ (c : tie.After-looked-up Inv-loop μ-loop) where
   label = labelOfByte (rowLabel (getD (c .before .before .before .before .before .before .before .before .args .rows .now) (c .before .before .before .before .before .before .before .loop .k) []))
 
   counts : c .looked-up .result ≡ same LookedUp label
-  counts = c .looked-up .ensures ∙ (λ i. same LookedUp (c .before .before .before .before .item-of .ensures i .item .label))
+  counts = c .looked-up .ensures ∙ (λ i. same LookedUp (c .before .before .before .before .judge-row .ensures i .item .label))
 
   most : c .looked-up .result ≤ 1
   most = rw counts (same-most LookedUp label)
@@ -36,19 +36,19 @@ module _ (c : tie.After-looked-up Inv-loop μ-loop) where
 loop-holds : tie.Need-loop-holds Inv-loop μ-loop
 loop-holds c = (omega arith, omega arith, judge-all _ _)
 
-mul-item-of : tie.Need-mul-item-of Inv-loop μ-loop
-mul-item-of c = omega arith
+mul-judge-row : tie.Need-mul-judge-row Inv-loop μ-loop
+mul-judge-row c = omega arith
 
-shared-slice-copy-out-item-of : tie.Need-shared-slice-copy-out-item-of Inv-loop μ-loop
-shared-slice-copy-out-item-of c = omega arith
+shared-slice-copy-out-judge-row : tie.Need-shared-slice-copy-out-judge-row Inv-loop μ-loop
+shared-slice-copy-out-judge-row c = omega arith
 
-item-of-requires : tie.Need-item-of-requires Inv-loop μ-loop
-item-of-requires c κs = search needs
+judge-row-requires : tie.Need-judge-row-requires Inv-loop μ-loop
+judge-row-requires c κs = search needs
 
 returns : tie.Need-returns Inv-loop μ-loop
 returns c =
     let judged = c .before .before in
-    let fails = sym (λ i. judged .item-of .ensures i .allowed) ∙ not-true _ (c .if1 .taken) in
+    let fails = sym (λ i. judged .judge-row .ensures i .allowed) ∙ not-true _ (c .if1 .taken) in
     sym (judged .before .before .before .loop .inv .2 ∙ judge-refused _ _ _ _ (judged .before .before .loop-test .taken) fails)
 
 looked-up-requires : tie.Need-looked-up-requires Inv-loop μ-loop
@@ -67,7 +67,7 @@ loop-again : tie.Need-loop-again Inv-loop μ-loop
 loop-again c =
     let m = most c in
     let judged = c .before .before .before .before in
-    let allowed = sym (λ i. judged .item-of .ensures i .allowed) ∙ not-false _ (c .before .before .if1 .left) in (
+    let allowed = sym (λ i. judged .judge-row .ensures i .allowed) ∙ not-false _ (c .before .before .if1 .left) in (
       omega arith,
       omega arith,
       judged .before .before .before .loop .inv .2 ∙ judge-allowed _ _ _ _ (judged .before .before .loop-test .taken) _ allowed (counts c),
@@ -87,9 +87,9 @@ judge-rows-spec =
     Inv-loop
     μ-loop
     loop-holds
-    mul-item-of
-    shared-slice-copy-out-item-of
-    item-of-requires
+    mul-judge-row
+    shared-slice-copy-out-judge-row
+    judge-row-requires
     returns
     looked-up-requires
     add-looked-up

@@ -37,23 +37,23 @@ add-following : tie.Need-add-following Inv-loop μ-loop
 add-following c = omega arith
 
 following-requires : tie.Need-following-requires Inv-loop μ-loop
-following-requires c κs = c .before .before .before .before .before .before .before .pre .1
+following-requires c κs = c .before .before .before .before .before .before .pre .1
 
 -- what is put is the record of the row at this place
 module _ (c : tie.After-following Inv-loop μ-loop) where
   abbrev place : tie.At-loop Inv-loop μ-loop
-  place = c .before .before .before .before .before .before
+  place = c .before .before .before .before .before
 
   abbrev rows : List (List ℤ)
   rows = place .before .before .args .rows .now
 
   inside : place .loop .k < length rows
-  inside = c .before .before .before .before .before .loop-test .taken
+  inside = c .before .before .before .before .loop-test .taken
 
-  record-is : itemRecord (c .following .result) (c .before .before .before .item-of .result .item) ≡ rowRecord rows (place .loop .k)
+  record-is : itemRecord (c .following .result) (c .before .before .item-of .result) ≡ rowRecord rows (place .loop .k)
   record-is =
       ap₂ itemRecord (c .following .ensures ∙ ap (following (length rows)) (add-one (place .loop .k)))
-      ((λ i. c .before .before .before .item-of .ensures i .item) ∙ sym (row-at rows (place .loop .k) inside))
+      (c .before .before .item-of .ensures ∙ sym (row-at rows (place .loop .k) inside))
 
 put-record-requires : tie.Need-put-record-requires Inv-loop μ-loop
 put-record-requires c κs =

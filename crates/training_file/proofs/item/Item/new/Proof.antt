@@ -10,15 +10,15 @@ allows-requires c κs = search needs
 allows-all-requires : tie.Need-allows-all-requires
 allows-all-requires c κs = search needs
 
-of-byte-requires : tie.Need-of-byte-requires
-of-byte-requires c κs = search needs
+of-requires : tie.Need-of-requires
+of-requires c κs = search needs
 
 returns : tie.Need-returns
 returns c =
     λ i. record {
       allowed = c .before .before .allows .ensures i && c .before .allows-all .ensures i;
-      item = record { features = c .before .before .before .args .features; label = c .of-byte .ensures i };
+      item = c .of .ensures i;
     }
 
 pub new-spec : {M : Type 1} → statement M
-new-spec = tie.close (tie.spec allows-requires allows-all-requires of-byte-requires returns)
+new-spec = tie.close (tie.spec allows-requires allows-all-requires of-requires returns)
