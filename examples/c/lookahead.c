@@ -2,7 +2,9 @@
  * with how far each can be from the best, and classifies words: a plain one, one
  * exactly on the line, those with the highest and the lowest feature, and one
  * with a feature that none may have. Then it reads the file with a damaged
- * chain, and says which record to open. */
+ * chain, and says which record to open. At the end it writes files: the same
+ * items out of memory, the small file with another budget, and one for which
+ * there is no room. */
 #include <inttypes.h>
 #include <stdbool.h>
 #include <stdio.h>
@@ -12,12 +14,14 @@
 
 enum { RECORDS = 3, HEADER = 32, RECORD = 20, FILE_LENGTH = HEADER + RECORDS * RECORD };
 
-/* The labels of a record. */
-enum { WAS_LOOKED_UP = 1, WAS_PASSED_OVER = 2 };
+/* Where a record has its label and its features. */
+enum { LABEL = 2, FEATURES = 4 };
 
-/* What is gathered of a file: its items' records and their multipliers. */
+/* A file, what reading answers of it, its items' records and their multipliers. */
 typedef struct {
-    size_t items;
+    const uint8_t *file;
+    size_t length;
+    lookahead_reading reading;
     uint16_t order[LOOKAHEAD_MOST_ITEMS];
     uint32_t multipliers[LOOKAHEAD_MOST_ITEMS];
 } Model;
@@ -34,19 +38,11 @@ static void put(uint8_t *at, uint64_t value, int bytes) {
     }
 }
 
-static uint64_t get(const uint8_t *at, int bytes) {
-    uint64_t value = 0;
-    for (int i = 0; i < bytes; i++) {
-        value |= (uint64_t)at[i] << (8 * i);
-    }
-    return value;
-}
-
 /* A record with one feature. */
 static void put_record(uint8_t *at, uint16_t next, uint8_t label, int8_t feature) {
     put(at, next, 2);
-    at[2] = label;
-    at[4] = (uint8_t)feature;
+    at[LABEL] = label;
+    at[FEATURES] = (uint8_t)feature;
 }
 
 /* Two items of one feature: 1 was looked up, -1 was passed over. They stand in
@@ -60,8 +56,8 @@ static void put_file(uint8_t file[FILE_LENGTH]) {
     put(file + 8, 10, 4);   /* grid units per 1 */
     put(file + 12, 100, 4); /* ceiling of items looked up */
     put(file + 24, 50, 4);  /* step budget */
-    put_record(file + start(1), 0, WAS_PASSED_OVER, -1);
-    put_record(file + start(3), 1, WAS_LOOKED_UP, 1);
+    put_record(file + start(1), 0, LOOKAHEAD_PASSED_OVER, -1);
+    put_record(file + start(3), 1, LOOKAHEAD_LOOKED_UP, 1);
 }
 
 static const char *kernel_name(uint8_t kernel) {
@@ -113,27 +109,41 @@ static bool refused(lookahead_answer answer) {
 
 /* Ends the line with what was read. Whether reading refused nothing, so that
  * there are items to train on. */
-static bool read_items(const uint8_t *file, Model *model) {
-    size_t used;
-    uint8_t kernel;
-    lookahead_answer answer = lookahead_read(file, FILE_LENGTH, model->order, LOOKAHEAD_MOST_ITEMS,
-                                             &model->items, &used, &kernel);
-    if (refused(answer)) {
+static bool read_file(Model *model, const uint8_t *file, size_t length) {
+    model->file = file;
+    model->length = length;
+    model->reading = lookahead_read(file, length, model->order, LOOKAHEAD_MOST_ITEMS);
+    if (refused(model->reading.answer)) {
         return false;
     }
-    printf("items %zu, features %zu, kernel %s\n", model->items, used, kernel_name(kernel));
+    lookahead_parameters parameters = model->reading.parameters;
+    printf("items %zu, features %zu, kernel %s\n", model->reading.items, parameters.used,
+           kernel_name(parameters.kernel));
     return true;
+}
+
+/* The item at a place of the order: bytes 4 to 19 and byte 2 of its record. */
+static lookahead_item item_of(const Model *model, size_t place) {
+    const uint8_t *record = model->file + start(model->order[place]);
+    lookahead_item item;
+    memcpy(item.features, record + FEATURES, LOOKAHEAD_FEATURES);
+    item.label = (int8_t)record[LABEL];
+    return item;
+}
+
+static bool was_looked_up(const Model *model, size_t place) {
+    return item_of(model, place).label == LOOKAHEAD_LOOKED_UP;
 }
 
 /* The last line of the training program's listing: how many multipliers are
  * above 0, and their sums over the items looked up and over those passed over,
- * which are equal. An item's label is byte 2 of its record. */
-static void print_total(const uint8_t *file, const Model *model) {
+ * which are equal. */
+static void print_total(const Model *model) {
     size_t above_zero = 0;
     uint64_t looked_up = 0, passed_over = 0;
-    for (size_t i = 0; i < model->items; i++) {
+    for (size_t i = 0; i < model->reading.items; i++) {
         uint32_t multiplier = model->multipliers[i];
-        if (file[start(model->order[i]) + 2] == WAS_LOOKED_UP) {
+        if (was_looked_up(model, i)) {
             looked_up += multiplier;
         } else {
             passed_over += multiplier;
@@ -144,35 +154,36 @@ static void print_total(const uint8_t *file, const Model *model) {
 }
 
 /* Whether training refused nothing, so that there are multipliers to go on with. */
-static bool train(const uint8_t *file, Model *model) {
+static bool train(Model *model) {
     int64_t gradient[LOOKAHEAD_MOST_ITEMS], lower, upper;
+    size_t items = model->reading.items;
     uint32_t steps;
     uint8_t ending;
     lookahead_answer answer =
-        lookahead_train(file, FILE_LENGTH, model->multipliers, model->items, gradient,
-                        model->items, &ending, &steps, &lower, &upper);
+        lookahead_train(model->file, model->length, model->multipliers, items, gradient, items,
+                        &ending, &steps, &lower, &upper);
     printf("train: ");
     if (refused(answer)) {
         return false;
     }
     printf("%s after %" PRIu32 " %s\n", ending_name(ending), steps, steps == 1 ? "step" : "steps");
-    for (size_t i = 0; i < model->items; i++) {
+    for (size_t i = 0; i < items; i++) {
         printf("record %d: multiplier %" PRIu32 "\n", model->order[i], model->multipliers[i]);
     }
-    print_total(file, model);
+    print_total(model);
     printf("thresholds: lower %" PRId64 ", upper %" PRId64 "\n", lower, upper);
     return true;
 }
 
 /* The sum of the items' ceilings: that of an item passed over is the second
  * ceiling, or the first where the second is 0. */
-static uint64_t sum_of_ceilings(const uint8_t *file, const Model *model) {
-    uint64_t looked_up = get(file + 12, 4), second = get(file + 28, 4);
-    uint64_t passed_over = second == 0 ? looked_up : second;
+static uint64_t sum_of_ceilings(const Model *model) {
+    lookahead_parameters parameters = model->reading.parameters;
+    uint32_t looked_up = parameters.ceiling, second = parameters.second_ceiling;
+    uint32_t passed_over = second == 0 ? looked_up : second;
     uint64_t sum = 0;
-    for (size_t i = 0; i < model->items; i++) {
-        uint8_t label = file[start(model->order[i]) + 2];
-        sum += label == WAS_LOOKED_UP ? looked_up : passed_over;
+    for (size_t i = 0; i < model->reading.items; i++) {
+        sum += was_looked_up(model, i) ? looked_up : passed_over;
     }
     return sum;
 }
@@ -193,22 +204,22 @@ static void print_distance(uint64_t ceilings, int64_t lower, int64_t upper) {
 }
 
 /* Hands over as many multipliers as there are items. */
-static void certify(const uint8_t *file, const Model *model, const char *call,
-                    const uint32_t *multipliers) {
+static void certify(const Model *model, const char *call, const uint32_t *multipliers) {
     int64_t lower, upper;
-    lookahead_answer answer =
-        lookahead_certify(file, FILE_LENGTH, multipliers, model->items, &lower, &upper);
+    lookahead_answer answer = lookahead_certify(model->file, model->length, multipliers,
+                                                model->reading.items, &lower, &upper);
     printf("%s: ", call);
     if (!refused(answer)) {
         printf("lower %" PRId64 ", upper %" PRId64 "\n", lower, upper);
-        print_distance(sum_of_ceilings(file, model), lower, upper);
+        print_distance(sum_of_ceilings(model), lower, upper);
     }
 }
 
-static void classify(const uint8_t *file, const Model *model, int8_t feature) {
+static void classify(const Model *model, int8_t feature) {
     uint8_t class_answer;
-    lookahead_answer answer = lookahead_classify(file, FILE_LENGTH, model->multipliers,
-                                                 model->items, &feature, 1, &class_answer);
+    lookahead_answer answer =
+        lookahead_classify(model->file, model->length, model->multipliers, model->reading.items,
+                           &feature, 1, &class_answer);
     printf("classify %d: ", feature);
     if (!refused(answer)) {
         printf("%s\n", class_name(class_answer));
@@ -222,7 +233,48 @@ static void read_damaged(const uint8_t *file, uint16_t record, uint16_t next) {
     memcpy(damaged, file, FILE_LENGTH);
     put(damaged + start(record), next, 2);
     printf("record %d leads to %d: ", record, next);
-    read_items(damaged, &model);
+    read_file(&model, damaged, FILE_LENGTH);
+}
+
+/* Writes into so many bytes of the output, and where that is not refused, reads
+ * what was written and trains on it. */
+static void write_file(const char *call, lookahead_parameters parameters,
+                       const lookahead_item *items, size_t items_len, size_t output_len) {
+    uint8_t output[LOOKAHEAD_MOST_FILE];
+    Model written;
+    size_t length;
+    lookahead_answer answer =
+        lookahead_write(parameters, items, items_len, output, output_len, &length);
+    printf("%s: ", call);
+    if (refused(answer)) {
+        return;
+    }
+    printf("length %zu\n", length);
+    printf("read: ");
+    if (read_file(&written, output, length)) {
+        train(&written);
+    }
+}
+
+/* The same two items in memory, with the parameters of a file. */
+static void write_items(lookahead_parameters parameters) {
+    const lookahead_item items[] = {
+        {.features = {1}, .label = LOOKAHEAD_LOOKED_UP},
+        {.features = {-1}, .label = LOOKAHEAD_PASSED_OVER},
+    };
+    write_file("write", parameters, items, 2, LOOKAHEAD_MOST_FILE);
+    write_file("write into 71 bytes", parameters, items, 2, 71);
+}
+
+/* The items of a file that was read, with another budget. */
+static void write_with_no_budget(const Model *model) {
+    lookahead_item items[LOOKAHEAD_MOST_ITEMS];
+    lookahead_parameters parameters = model->reading.parameters;
+    for (size_t i = 0; i < model->reading.items; i++) {
+        items[i] = item_of(model, i);
+    }
+    parameters.budget = 0;
+    write_file("write with budget 0", parameters, items, model->reading.items, LOOKAHEAD_MOST_FILE);
 }
 
 int main(void) {
@@ -231,18 +283,20 @@ int main(void) {
     Model model;
     put_file(file);
     printf("read: ");
-    if (!read_items(file, &model) || !train(file, &model)) {
+    if (!read_file(&model, file, FILE_LENGTH) || !train(&model)) {
         return 1;
     }
-    certify(file, &model, "certify", model.multipliers);
-    certify(file, &model, "certify 0 0", zeros);
-    classify(file, &model, 3);
-    classify(file, &model, 0);
-    classify(file, &model, 127);
-    classify(file, &model, -127);
-    classify(file, &model, -128);
-    certify(file, &model, "certify 5 4", unbalanced);
+    certify(&model, "certify", model.multipliers);
+    certify(&model, "certify 0 0", zeros);
+    classify(&model, 3);
+    classify(&model, 0);
+    classify(&model, 127);
+    classify(&model, -127);
+    classify(&model, -128);
+    certify(&model, "certify 5 4", unbalanced);
     read_damaged(file, 1, 3);
     read_damaged(file, 3, 4);
+    write_items(model.reading.parameters);
+    write_with_no_budget(&model);
     return 0;
 }

@@ -2,7 +2,9 @@
 //! with how far each can be from the best, and classifies words: a plain one, one
 //! exactly on the line, those with the highest and the lowest feature, and one
 //! with a feature that none may have. Then it reads the file with a damaged
-//! chain, and says which record to open.
+//! chain, and says which record to open. At the end it writes files: the same
+//! items out of memory, the small file with another budget, and one for which
+//! there is no room.
 
 #[path = "../../include/lookahead.rs"]
 mod declared;
@@ -11,13 +13,16 @@ mod declared;
 /// and what a call writes is a place of its own.
 mod lookahead {
     use super::declared::{
-        lookahead_certify, lookahead_classify, lookahead_read, lookahead_train, LookaheadAnswer,
-        LOOKAHEAD_CONVERGED, LOOKAHEAD_LINEAR, LOOKAHEAD_LOOKED_UP, LOOKAHEAD_PASSED_OVER,
-        LOOKAHEAD_SQUARE, LOOKAHEAD_STUCK,
+        lookahead_certify, lookahead_classify, lookahead_read, lookahead_train, lookahead_write,
+        LookaheadAnswer, LOOKAHEAD_CONVERGED, LOOKAHEAD_LOOKED_UP, LOOKAHEAD_PASSED_OVER,
+        LOOKAHEAD_STUCK,
     };
     use std::fmt;
 
-    pub use super::declared::LOOKAHEAD_MOST_ITEMS as MOST_ITEMS;
+    pub use super::declared::{
+        LookaheadItem as Item, LookaheadParameters as Parameters, LOOKAHEAD_FEATURES as FEATURES,
+        LOOKAHEAD_MOST_FILE as MOST_FILE, LOOKAHEAD_MOST_ITEMS as MOST_ITEMS,
+    };
 
     /// The number of a refusal, which include/lookahead.h explains, and for the
     /// two faults of a chain the record to open.
@@ -37,16 +42,9 @@ mod lookahead {
         }
     }
 
-    pub enum Kernel {
-        Linear,
-        Square,
-        Overlap,
-    }
-
     pub struct Contents {
         pub items: usize,
-        pub used: usize,
-        pub kernel: Kernel,
+        pub parameters: Parameters,
     }
 
     #[derive(Default)]
@@ -87,30 +85,14 @@ mod lookahead {
     /// Fills the first places of the table with record numbers, one for each
     /// item, as far as there are places.
     pub fn read(file: &[u8], order: &mut [u16]) -> Result<Contents, Refusal> {
-        let (mut items, mut used, mut kernel) = (0, 0, 0);
         // SAFETY: every pointer is a reference's, and comes with its slice's length.
-        let answer = unsafe {
-            lookahead_read(
-                file.as_ptr(),
-                file.len(),
-                order.as_mut_ptr(),
-                order.len(),
-                &mut items,
-                &mut used,
-                &mut kernel,
-            )
-        };
-        let kernel = match kernel {
-            LOOKAHEAD_LINEAR => Kernel::Linear,
-            LOOKAHEAD_SQUARE => Kernel::Square,
-            _ => Kernel::Overlap,
-        };
+        let reading =
+            unsafe { lookahead_read(file.as_ptr(), file.len(), order.as_mut_ptr(), order.len()) };
         unless_refused(
-            answer,
+            reading.answer,
             Contents {
-                items,
-                used,
-                kernel,
+                items: reading.items,
+                parameters: reading.parameters,
             },
         )
     }
@@ -190,9 +172,31 @@ mod lookahead {
         };
         unless_refused(answer, class)
     }
+
+    /// The length of the file, which the output's first bytes hold.
+    pub fn write(
+        parameters: Parameters,
+        items: &[Item],
+        output: &mut [u8],
+    ) -> Result<usize, Refusal> {
+        let mut length = 0;
+        // SAFETY: as in `read`.
+        let answer = unsafe {
+            lookahead_write(
+                parameters,
+                items.as_ptr(),
+                items.len(),
+                output.as_mut_ptr(),
+                output.len(),
+                &mut length,
+            )
+        };
+        unless_refused(answer, length)
+    }
 }
 
-use lookahead::{Class, Contents, Ending, Kernel, Refusal, Thresholds};
+use declared::{LOOKAHEAD_LINEAR, LOOKAHEAD_LOOKED_UP, LOOKAHEAD_PASSED_OVER, LOOKAHEAD_SQUARE};
+use lookahead::{Class, Contents, Ending, Item, Parameters, Refusal, Thresholds};
 
 /// Two items of one feature: 1 was looked up, -1 was passed over. They stand in
 /// records 3 and 1; record 2 is spare.
@@ -200,20 +204,19 @@ fn small_file() -> Vec<u8> {
     let mut file = Vec::new();
     file.extend(3u16.to_le_bytes()); // records
     file.extend(3u16.to_le_bytes()); // the first record of the chain
-    file.extend([1, 0, 0, 0]); // one feature in use, the linear kernel, spare
+    file.extend([1, LOOKAHEAD_LINEAR, 0, 0]); // one feature in use, the kernel, spare
     file.extend(10u32.to_le_bytes()); // grid units per 1
     file.extend(100u32.to_le_bytes()); // ceiling of items looked up
     file.extend(0u64.to_le_bytes()); // tolerance
     file.extend(50u32.to_le_bytes()); // step budget
     file.extend(0u32.to_le_bytes()); // that of items passed over: 0, the same
-    file.extend(record(0, 2, -1));
+    file.extend(record(0, LOOKAHEAD_PASSED_OVER, -1));
     file.extend([0; 20]); // the spare record
-    file.extend(record(1, 1, 1));
+    file.extend(record(1, LOOKAHEAD_LOOKED_UP, 1));
     file
 }
 
-/// A record with one feature: the next record's number, the label (1 looked up,
-/// 2 passed over) and the feature.
+/// A record with one feature: the next record's number, the label and the feature.
 fn record(next: u16, label: u8, feature: i8) -> [u8; 20] {
     let mut record = [0; 20];
     record[..2].copy_from_slice(&next.to_le_bytes());
@@ -227,6 +230,38 @@ fn start(record: u16) -> usize {
     32 + 20 * (usize::from(record) - 1)
 }
 
+/// An item with one feature.
+fn item(label: u8, feature: i8) -> Item {
+    let mut features = [0; lookahead::FEATURES];
+    features[0] = feature;
+    Item {
+        features,
+        label: label as i8,
+    }
+}
+
+/// The item of a record: bytes 4 to 19 and byte 2.
+fn item_of(file: &[u8], record: u16) -> Item {
+    let record = &file[start(record)..][..20];
+    let mut item = item(record[2], 0);
+    for (feature, &byte) in item.features.iter_mut().zip(&record[4..]) {
+        *feature = byte as i8;
+    }
+    item
+}
+
+fn was_looked_up(file: &[u8], record: u16) -> bool {
+    item_of(file, record).label == LOOKAHEAD_LOOKED_UP as i8
+}
+
+fn kernel_name(kernel: u8) -> &'static str {
+    match kernel {
+        LOOKAHEAD_LINEAR => "linear",
+        LOOKAHEAD_SQUARE => "square",
+        _ => "overlap",
+    }
+}
+
 fn ending_name(ending: Ending) -> &'static str {
     match ending {
         Ending::Converged => "converged",
@@ -235,20 +270,55 @@ fn ending_name(ending: Ending) -> &'static str {
     }
 }
 
+/// A file, its parameters, its items' records and their multipliers.
+struct Model<'a> {
+    file: &'a [u8],
+    parameters: Parameters,
+    order: Vec<u16>,
+    multipliers: Vec<u32>,
+}
+
+fn read(file: &[u8]) -> Result<Model<'_>, Refusal> {
+    let mut order = vec![0; lookahead::MOST_ITEMS];
+    let read = lookahead::read(file, &mut order)?;
+    print_contents("read", &read);
+    order.truncate(read.items);
+    Ok(Model {
+        file,
+        parameters: read.parameters,
+        order,
+        multipliers: vec![0; read.items],
+    })
+}
+
+fn train(model: &mut Model) -> Result<(), Refusal> {
+    let mut gradient = vec![0; model.order.len()];
+    let trained = lookahead::train(model.file, &mut model.multipliers, &mut gradient)?;
+    let (ending, steps) = (ending_name(trained.ending), trained.steps);
+    let unit = if steps == 1 { "step" } else { "steps" };
+    println!("train: {ending} after {steps} {unit}");
+    for (record, multiplier) in model.order.iter().zip(&model.multipliers) {
+        println!("record {record}: multiplier {multiplier}");
+    }
+    print_total(model);
+    let found = trained.thresholds;
+    println!("thresholds: lower {}, upper {}", found.lower, found.upper);
+    Ok(())
+}
+
 /// The sum of the items' ceilings: that of an item passed over is the second
 /// ceiling, or the first where the second is 0.
-fn sum_of_ceilings(file: &[u8], order: &[u16]) -> u64 {
-    let field = |start: usize| -> u64 {
-        let bytes = file[start..start + 4].try_into().expect("four bytes");
-        u32::from_le_bytes(bytes).into()
+fn sum_of_ceilings(model: &Model) -> u64 {
+    let looked_up = model.parameters.ceiling;
+    let passed_over = match model.parameters.second_ceiling {
+        0 => looked_up,
+        second => second,
     };
-    let (looked_up, second) = (field(12), field(28));
-    let passed_over = if second == 0 { looked_up } else { second };
-    let ceiling = |&record: &u16| match file[start(record) + 2] {
-        1 => looked_up,
-        _ => passed_over,
+    let ceiling = |&record: &u16| match was_looked_up(model.file, record) {
+        true => u64::from(looked_up),
+        false => u64::from(passed_over),
     };
-    order.iter().map(ceiling).sum()
+    model.order.iter().map(ceiling).sum()
 }
 
 /// By how much the best objective can be lower: at most the gap between the
@@ -266,18 +336,18 @@ fn print_distance(ceilings: u64, found: &Thresholds) {
     println!("distance from the best: at most {bound}");
 }
 
-fn print_certified(call: &str, file: &[u8], order: &[u16], multipliers: &[u32]) {
-    match lookahead::certify(file, multipliers) {
+fn print_certified(call: &str, model: &Model, multipliers: &[u32]) {
+    match lookahead::certify(model.file, multipliers) {
         Ok(found) => {
             println!("{call}: lower {}, upper {}", found.lower, found.upper);
-            print_distance(sum_of_ceilings(file, order), &found);
+            print_distance(sum_of_ceilings(model), &found);
         }
         Err(refusal) => println!("{call}: {refusal}"),
     }
 }
 
-fn print_class(file: &[u8], multipliers: &[u32], feature: i8) {
-    match lookahead::classify(file, multipliers, &[feature]) {
+fn print_class(model: &Model, feature: i8) {
+    match lookahead::classify(model.file, &model.multipliers, &[feature]) {
         Ok(Class::LookedUp) => println!("classify {feature}: looked up"),
         Ok(Class::PassedOver) => println!("classify {feature}: passed over"),
         Ok(Class::Undecided) => println!("classify {feature}: undecided"),
@@ -287,28 +357,21 @@ fn print_class(file: &[u8], multipliers: &[u32], feature: i8) {
 
 /// The last line of the training program's listing: how many multipliers are
 /// above 0, and their sums over the items looked up and over those passed over,
-/// which are equal. An item's label is byte 2 of its record.
-fn print_total(file: &[u8], order: &[u16], multipliers: &[u32]) {
-    let label = |record: u16| file[start(record) + 2];
-    let sum = |labelled: u8| -> u64 {
-        let items = order.iter().zip(multipliers);
-        let of_label = items.filter(|item| label(*item.0) == labelled);
+/// which are equal.
+fn print_total(model: &Model) {
+    let sum = |looked_up: bool| -> u64 {
+        let items = model.order.iter().zip(&model.multipliers);
+        let of_label = items.filter(|item| was_looked_up(model.file, *item.0) == looked_up);
         of_label.map(|item| u64::from(*item.1)).sum()
     };
-    let above_zero = multipliers.iter().filter(|&&a| a > 0).count();
-    println!("total {above_zero} {} {}", sum(1), sum(2));
+    let above_zero = model.multipliers.iter().filter(|&&a| a > 0).count();
+    println!("total {above_zero} {} {}", sum(true), sum(false));
 }
 
 fn print_contents(call: &str, read: &Contents) {
-    let kernel = match read.kernel {
-        Kernel::Linear => "linear",
-        Kernel::Square => "square",
-        Kernel::Overlap => "overlap",
-    };
-    println!(
-        "{call}: items {}, features {}, kernel {kernel}",
-        read.items, read.used
-    );
+    let (items, used) = (read.items, read.parameters.used);
+    let kernel = kernel_name(read.parameters.kernel);
+    println!("{call}: items {items}, features {used}, kernel {kernel}");
 }
 
 /// Reads the file with another next number in one of its records.
@@ -322,35 +385,70 @@ fn print_damaged(file: &[u8], record: u16, next: u16) {
     }
 }
 
+/// Writes into so many bytes, and where that is not refused, reads what was
+/// written and trains on it.
+fn print_written(
+    call: &str,
+    parameters: Parameters,
+    items: &[Item],
+    bytes: usize,
+) -> Result<(), Refusal> {
+    let mut output = vec![0; bytes];
+    match lookahead::write(parameters, items, &mut output) {
+        Ok(length) => {
+            println!("{call}: length {length}");
+            train(&mut read(&output[..length])?)
+        }
+        Err(refusal) => {
+            println!("{call}: {refusal}");
+            Ok(())
+        }
+    }
+}
+
+/// The same two items in memory, with the parameters of a file.
+fn write_items(parameters: Parameters) -> Result<(), Refusal> {
+    let items = [
+        item(LOOKAHEAD_LOOKED_UP, 1),
+        item(LOOKAHEAD_PASSED_OVER, -1),
+    ];
+    print_written("write", parameters, &items, lookahead::MOST_FILE)?;
+    print_written("write into 71 bytes", parameters, &items, 71)
+}
+
+/// The items of a file that was read, with another budget.
+fn write_with_no_budget(model: &Model) -> Result<(), Refusal> {
+    let items: Vec<Item> = model
+        .order
+        .iter()
+        .map(|&record| item_of(model.file, record))
+        .collect();
+    let parameters = Parameters {
+        budget: 0,
+        ..model.parameters
+    };
+    print_written(
+        "write with budget 0",
+        parameters,
+        &items,
+        lookahead::MOST_FILE,
+    )
+}
+
 fn main() -> Result<(), Refusal> {
     let file = small_file();
-    let mut order = [0; lookahead::MOST_ITEMS];
-    let read = lookahead::read(&file, &mut order)?;
-    print_contents("read", &read);
-    let (mut multipliers, mut gradient) = (vec![0; read.items], vec![0; read.items]);
-    let trained = lookahead::train(&file, &mut multipliers, &mut gradient)?;
-    let unit = if trained.steps == 1 { "step" } else { "steps" };
-    println!(
-        "train: {} after {} {unit}",
-        ending_name(trained.ending),
-        trained.steps
-    );
-    for (record, multiplier) in order.iter().zip(&multipliers) {
-        println!("record {record}: multiplier {multiplier}");
-    }
-    let order = &order[..read.items];
-    print_total(&file, order, &multipliers);
-    let found = trained.thresholds;
-    println!("thresholds: lower {}, upper {}", found.lower, found.upper);
-    print_certified("certify", &file, order, &multipliers);
-    print_certified("certify 0 0", &file, order, &[0, 0]);
-    print_class(&file, &multipliers, 3);
-    print_class(&file, &multipliers, 0);
-    print_class(&file, &multipliers, 127);
-    print_class(&file, &multipliers, -127);
-    print_class(&file, &multipliers, -128);
-    print_certified("certify 5 4", &file, order, &[5, 4]);
+    let mut model = read(&file)?;
+    train(&mut model)?;
+    print_certified("certify", &model, &model.multipliers);
+    print_certified("certify 0 0", &model, &[0, 0]);
+    print_class(&model, 3);
+    print_class(&model, 0);
+    print_class(&model, 127);
+    print_class(&model, -127);
+    print_class(&model, -128);
+    print_certified("certify 5 4", &model, &[5, 4]);
     print_damaged(&file, 1, 3);
     print_damaged(&file, 3, 4);
-    Ok(())
+    write_items(model.parameters)?;
+    write_with_no_budget(&model)
 }

@@ -1,16 +1,18 @@
-/* Times the library's four calls and the same calls in plain C, by turns in one run, on each training file named. Prints how many times
- * the plain one's time the library takes, for each file, for all files of a kernel, and for all. Ends with status 1 where an answer
- * differs. Refused files are passed over. */
+/* Times the library's five calls and the same calls in plain C, by turns in one run, on each training file named; writing makes the file
+ * anew, from the parameters and the items that reading gave. Prints how many times the plain one's time the library takes, for each file,
+ * for all files of a kernel, and for all. Ends with status 1 where an answer differs. Refused files are passed over. */
 
 #include "lookahead.h"
 #include <stdio.h>
 #include <string.h>
 #include <time.h>
 
-enum { PLACES = 32 + 20 * LOOKAHEAD_MOST_ITEMS + 1, ROUNDS = 9, CALLS = 4, KERNELS = 3 };
+enum { PLACES = LOOKAHEAD_MOST_FILE + 1, ROUNDS = 9, KERNELS = 3 };
+
+enum { READ, TRAIN, CERTIFY, CLASSIFY, WRITE, CALLS };
 
 static const double LEAST_SECONDS = 0.01;
-static const char *const NAMES[CALLS] = {"read", "train", "certify", "classify"};
+static const char *const NAMES[CALLS] = {"read", "train", "certify", "classify", "write"};
 static const char *const KERNEL_NAMES[KERNELS] = {
     [LOOKAHEAD_LINEAR] = "linear", [LOOKAHEAD_SQUARE] = "square", [LOOKAHEAD_OVERLAP] = "overlap"};
 
@@ -19,6 +21,7 @@ typedef struct {
     __typeof__(lookahead_train) *train;
     __typeof__(lookahead_certify) *certify;
     __typeof__(lookahead_classify) *classify;
+    __typeof__(lookahead_write) *write;
 } Calls;
 
 /* Plain C: tests/compare/stub/stub.c under other names. */
@@ -26,16 +29,24 @@ extern __typeof__(lookahead_read) plain_read;
 extern __typeof__(lookahead_train) plain_train;
 extern __typeof__(lookahead_certify) plain_certify;
 extern __typeof__(lookahead_classify) plain_classify;
+extern __typeof__(lookahead_write) plain_write;
 
-static const Calls LIBRARY = {lookahead_read, lookahead_train, lookahead_certify, lookahead_classify};
-static const Calls PLAIN = {plain_read, plain_train, plain_certify, plain_classify};
+static const Calls LIBRARY = {lookahead_read, lookahead_train, lookahead_certify, lookahead_classify, lookahead_write};
+static const Calls PLAIN = {plain_read, plain_train, plain_certify, plain_classify, plain_write};
 
 static uint8_t file[PLACES];
 static size_t length;
 
-/* Number and record apart: what a lookahead_answer holds between them may be anything, and answers are compared byte by byte. */
+/* The file's items in memory, as they are handed over to be written. */
+static lookahead_item items[LOOKAHEAD_MOST_ITEMS];
+
+/* Number and record apart, and the parameters one by one: what a struct holds between its fields may be anything, and answers are
+ * compared byte by byte. */
 typedef struct {
-    size_t items, used;
+    size_t items, used, written;
+    uint64_t tolerance;
+    uint32_t grid, ceiling, second_ceiling, budget;
+    uint8_t output[LOOKAHEAD_MOST_FILE];
     uint16_t order[LOOKAHEAD_MOST_ITEMS];
     uint32_t multipliers[LOOKAHEAD_MOST_ITEMS];
     int64_t gradient[LOOKAHEAD_MOST_ITEMS];
@@ -47,19 +58,39 @@ typedef struct {
 
 static const int8_t *word(void) { return (const int8_t *)file + 36; }
 
-static void make(const Calls *by, int call, Answer *x) {
-    lookahead_answer answer;
-    if (call == 0)
-        answer = by->read(file, length, x->order, LOOKAHEAD_MOST_ITEMS, &x->items, &x->used, &x->kernel);
-    else if (call == 1)
-        answer = by->train(file, length, x->multipliers, LOOKAHEAD_MOST_ITEMS, x->gradient, LOOKAHEAD_MOST_ITEMS,
-                           &x->ending, &x->steps, &x->lower, &x->upper);
-    else if (call == 2)
-        answer = by->certify(file, length, x->multipliers, x->items, &x->lower, &x->upper);
-    else
-        answer = by->classify(file, length, x->multipliers, x->items, word(), x->used, &x->class);
+static void keep(Answer *x, lookahead_answer answer) {
     x->refusal = answer.number;
     x->record = answer.record;
+}
+
+static void keep_reading(Answer *x, lookahead_reading read) {
+    keep(x, read.answer);
+    x->items = read.items;
+    x->used = read.parameters.used;
+    x->kernel = read.parameters.kernel;
+    x->grid = read.parameters.grid;
+    x->ceiling = read.parameters.ceiling;
+    x->second_ceiling = read.parameters.second_ceiling;
+    x->tolerance = read.parameters.tolerance;
+    x->budget = read.parameters.budget;
+}
+
+static lookahead_parameters parameters(const Answer *x) {
+    return (lookahead_parameters){x->used, x->kernel, x->grid, x->ceiling, x->second_ceiling, x->tolerance, x->budget};
+}
+
+static void make(const Calls *by, int call, Answer *x) {
+    if (call == READ)
+        keep_reading(x, by->read(file, length, x->order, LOOKAHEAD_MOST_ITEMS));
+    else if (call == TRAIN)
+        keep(x, by->train(file, length, x->multipliers, LOOKAHEAD_MOST_ITEMS, x->gradient, LOOKAHEAD_MOST_ITEMS, &x->ending,
+                          &x->steps, &x->lower, &x->upper));
+    else if (call == CERTIFY)
+        keep(x, by->certify(file, length, x->multipliers, x->items, &x->lower, &x->upper));
+    else if (call == CLASSIFY)
+        keep(x, by->classify(file, length, x->multipliers, x->items, word(), x->used, &x->class));
+    else
+        keep(x, by->write(parameters(x), items, x->items, x->output, sizeof x->output, &x->written));
 }
 
 static double seconds(const Calls *by, int call, Answer *x, long times) {
@@ -91,6 +122,15 @@ static int load(const char *name) {
     return 1;
 }
 
+/* Takes the items out of the file, in the order that reading gave. */
+static void take_items(const Answer *x) {
+    for (size_t i = 0; i < x->items; i++) {
+        const uint8_t *record = file + 32 + 20 * (x->order[i] - 1);
+        memcpy(items[i].features, record + 4, LOOKAHEAD_FEATURES);
+        items[i].label = (int8_t)record[2];
+    }
+}
+
 static int same_answers(Answer *x, Answer *z) {
     memset(x, 0, sizeof *x);
     memset(z, 0, sizeof *z);
@@ -98,6 +138,7 @@ static int same_answers(Answer *x, Answer *z) {
         make(&LIBRARY, call, x);
         make(&PLAIN, call, z);
         if (x->refusal != 0 || z->refusal != 0) return x->refusal == z->refusal && x->record == z->record;
+        if (call == READ) take_items(x);
     }
     return memcmp(x, z, sizeof *x) == 0;
 }
@@ -129,7 +170,7 @@ int main(int count, char **names) {
         }
         if (x.refusal != 0) continue;
         Times times;
-        printf("%s, %s, %zu items, %u steps:", names[k], KERNEL_NAMES[x.kernel], x.items, (unsigned)x.steps);
+        printf("%s, %s, %zu items of %zu features, %u steps:", names[k], KERNEL_NAMES[x.kernel], x.items, x.used, (unsigned)x.steps);
         for (int call = 0; call < CALLS; call++) measure(call, &x, &times.library[call], &times.plain[call]);
         print_ratios(&times);
         add(&of_kernel[x.kernel], &times);

@@ -1,6 +1,6 @@
 -- Document 01, "Settled examples": P1 to P12 as one table of inputs and results, and one theorem, by the definitions that the
--- contracts of the public calls cite. E1 to E3, K1 to K4, F1 to F6 and I1 to I7 are our own, for requests (e), (k), (f) and (i) of
--- document 02. Assumes nothing.
+-- contracts of the public calls cite. E1 to E3, K1 to K4, F1 to F6, I1 to I7 and B1 to B7 are our own, for requests (e), (k), (f), (i) and
+-- (b) of document 02. Assumes nothing.
 use mathlib.Core.Path.{_≡_, refl}
 use mathlib.Core.Bool.{Bool, false}
 use mathlib.Core.List.{List, [], _∷_, _++_}
@@ -11,8 +11,11 @@ use lib.ListN.{length, replicate}
 use Rattle.integers.specs.Sum.{sum}
 use Rattle.integers.specs.Extremum.{extreme, first}
 use Rattle.integers.specs.Places.{all}
+use Rattle.integers.specs.Tabulate.{tabulate}
 use Rattle.integers.specs.Written.{written}
 use Rattle.training_file.specs.declared.refusal.Refusal.{Refusal}
+use Rattle.training_file.specs.declared.parameters.Kernel.the-variants.{Linear, Overlap}
+use Rattle.training_file.specs.declared.parameters.Parameters.{Parameters}
 use Rattle.training_file.specs.Refusal.{refusal, refusalAt}
 use Rattle.training_file.specs.Parameters.{parametersAllowed}
 use Rattle.training_file.specs.Item.{featuresAllowed, labelled}
@@ -34,6 +37,9 @@ use Rattle.classifying.specs.declared.classify.Class.the-variants.{LookedUp, Pa
 use Rattle.classifying.specs.declared.classify.Classified.{Classified}
 use Rattle.classifying.specs.declared.classify.Classified.the-variants.{Is}
 use Rattle.classifying.specs.Classify.{classifying, score, scoreWith}
+use Rattle.written_file.specs.File.{recordsTo}
+use Rattle.written_file.specs.Output.{Writing, wrote, refused as notWritten}
+use Rattle.writing.specs.Writing.{writing}
 
 -- ---- the files, byte for byte: d 1; kernel, S, c, t, budget (each below 256); records chained in their order, by label and feature byte.
 -- Of the ceiling for label −1, two bytes that are not always 0
@@ -81,6 +87,47 @@ oneAgainstTwo c second = headerWith 3 0 10 c 0 50 second 0 ++ stored 2 1 1 ++ st
 abbrev bothEnds : List ℕ
 bothEnds = header 2 2 127 100 0 50 ++ stored 2 1 127 ++ stored 0 2 129
 
+-- ---- what is written: the parameters of the ±1 file of P1 with an S, and with every field at its greatest
+abbrev parametersWith : (S : ℕ) → Parameters
+parametersWith S = record { used = 1; kernel = Linear; grid = S; ceiling = 100; «second_ceiling» = 0; tolerance = 0; budget = 50 }
+
+abbrev greatest : Parameters
+greatest =
+    record { used = 16; kernel = Overlap; grid = 1048576; ceiling = 65536; «second_ceiling» = 65536; tolerance = 1000000000000; budget = 1000000 }
+
+-- an item in memory: sixteen features, the first and fifteen times another, then the label's number
+abbrev rowOf : (feature others label : ℤ) → List ℤ
+rowOf feature others label = feature ∷ replicate 15 others ++ (label ∷ [])
+
+abbrev row : (feature label : ℤ) → List ℤ
+row feature label = rowOf feature (pos 0) label
+
+-- an item whose second feature is not 0, although one is in use
+abbrev pastUsed : List ℤ
+pastUsed = pos 1 ∷ pos 1 ∷ replicate 14 (pos 0) ++ (pos 1 ∷ [])
+
+-- the items of the ±1 file, and the file of them with P1's parameters
+abbrev plusMinusItems : List (List ℤ)
+plusMinusItems = row (pos 1) (pos 1) ∷ row (negsuc 0) (pos 2) ∷ []
+
+abbrev plusMinusFile : List ℕ
+plusMinusFile =
+    (2 ∷ 0 ∷ 1 ∷ 0 ∷ 1 ∷ 0 ∷ 0 ∷ 0 ∷ 10 ∷ 0 ∷ 0 ∷ 0 ∷ 100 ∷ 0 ∷ 0 ∷ 0 ∷ [])
+    ++ (0 ∷ 0 ∷ 0 ∷ 0 ∷ 0 ∷ 0 ∷ 0 ∷ 0 ∷ 50 ∷ 0 ∷ 0 ∷ 0 ∷ 0 ∷ 0 ∷ 0 ∷ 0 ∷ [])
+    ++ (2 ∷ 0 ∷ 1 ∷ 0 ∷ 1 ∷ 0 ∷ 0 ∷ 0 ∷ 0 ∷ 0 ∷ 0 ∷ 0 ∷ 0 ∷ 0 ∷ 0 ∷ 0 ∷ 0 ∷ 0 ∷ 0 ∷ 0 ∷ [])
+    ++ (0 ∷ 0 ∷ 2 ∷ 0 ∷ 255 ∷ 0 ∷ 0 ∷ 0 ∷ 0 ∷ 0 ∷ 0 ∷ 0 ∷ 0 ∷ 0 ∷ 0 ∷ 0 ∷ 0 ∷ 0 ∷ 0 ∷ 0 ∷ [])
+
+-- two items with features at both ends of their range, and the file of them with the greatest parameters
+abbrev endItems : List (List ℤ)
+endItems = rowOf (pos 127) (negsuc 126) (pos 1) ∷ rowOf (negsuc 126) (negsuc 126) (pos 2) ∷ []
+
+abbrev greatestFile : List ℕ
+greatestFile =
+    (2 ∷ 0 ∷ 1 ∷ 0 ∷ 16 ∷ 2 ∷ 0 ∷ 0 ∷ 0 ∷ 0 ∷ 16 ∷ 0 ∷ 0 ∷ 0 ∷ 1 ∷ 0 ∷ [])
+    ++ (0 ∷ 16 ∷ 165 ∷ 212 ∷ 232 ∷ 0 ∷ 0 ∷ 0 ∷ 64 ∷ 66 ∷ 15 ∷ 0 ∷ 0 ∷ 0 ∷ 1 ∷ 0 ∷ [])
+    ++ (2 ∷ 0 ∷ 1 ∷ 0 ∷ 127 ∷ replicate 15 129)
+    ++ (0 ∷ 0 ∷ 2 ∷ 0 ∷ replicate 16 129)
+
 -- ---- the cases
 pub data Case : Type 0 where
   -- the file; ending, steps, b_low, b_up; the lent list of three 9s afterwards
@@ -93,6 +140,8 @@ pub data Case : Type 0 where
   certifies : List ℕ → List ℕ → Certified → Case
   -- the file, the multipliers, the word; the answer and the value
   classifies : List ℕ → List ℕ → List ℤ → Classified → ℤ → Case
+  -- the parameters, the items, the length of the output; the file or the refusal
+  writes : Parameters → List (List ℤ) → ℕ → Writing → Case
 
 abbrev trained : List ℕ → TrainingLeft
 trained file = trainFile file (replicate 3 9) (replicate 3 (pos 9))
@@ -118,6 +167,7 @@ Holds (refuses file why) = trained file ≡ unchanged why (replicate 3 9) (repli
 Holds (firstPairStays file) = firstPairMoves (reading file) ≡ some false
 Holds (certifies file a answer) = certifying file a ≡ answer
 Holds (classifies file a word answer v) = (classifying file a word ≡ answer) × (value (reading file) a word ≡ v)
+Holds (writes p items room answer) = writing p items room ≡ answer
 
 abbrev pub AllHold : List Case → Type 0
 AllHold [] = Unit {0}
@@ -162,11 +212,21 @@ settledExamples =
     ∷ classifies (plusMinus 2 10 100 0 50) (10 ∷ 10 ∷ []) (pos 0 ∷ []) (Is Undecided) (pos 0)
     ∷ classifies bothEnds (1 ∷ 1 ∷ []) (negsuc 126 ∷ []) (Is PassedOver) (negsuc 253)  -- I6
     ∷ refuses (plusMinus 3 10 100 0 50) (refusal 2)  -- I7
+    ∷ writes (parametersWith 10) plusMinusItems 73 (wrote plusMinusFile)  -- B1
+    ∷ writes greatest endItems 73 (wrote greatestFile)  -- B2
+    ∷ writes (parametersWith 0) (row (pos 1) (pos 1) ∷ replicate 256 (row (negsuc 0) (pos 2))) 3 (notWritten (refusal 2))  -- B3
+    ∷ writes (parametersWith 10) (row (pos 1) (pos 3) ∷ replicate 256 (row (negsuc 0) (pos 2))) 3 (notWritten (refusal 1))  -- B4
+    ∷ writes (parametersWith 10) (row (pos 1) (negsuc 0) ∷ row (pos 1) (pos 1) ∷ []) 3 (notWritten (refusal 4))  -- B5
+    ∷ writes (parametersWith 10) (row (pos 1) (pos 1) ∷ row (negsuc 127) (pos 1) ∷ []) 3 (notWritten (refusal 4))
+    ∷ writes (parametersWith 10) (row (pos 1) (pos 1) ∷ pastUsed ∷ []) 3 (notWritten (refusal 4))
+    ∷ writes (parametersWith 10) (row (pos 1) (pos 1) ∷ row (negsuc 0) (pos 1) ∷ []) 3 (notWritten (refusal 5))  -- B6
+    ∷ writes (parametersWith 10) [] 3 (notWritten (refusal 5))
+    ∷ writes (parametersWith 10) plusMinusItems 71 (notWritten (refusal 10))  -- B7
     ∷ []
 
 pub settled : AllHold settledExamples
 unfolding
-    reading lengthAllowed headerAllowed parametersAllowed recordsMet every recordAllowed featuresAllowed labelled sum extreme first all written gradient doubleSum objective amount firstCandidate workingPair turn run scoreWith
+    reading lengthAllowed headerAllowed parametersAllowed recordsMet every recordAllowed featuresAllowed labelled sum extreme first all written gradient doubleSum objective amount firstCandidate workingPair turn run scoreWith tabulate recordsTo writing
 settled = (
   (refl, refl),
   (
@@ -185,7 +245,7 @@ settled = (
                 (refl, refl),
                 (
                   refl,
-                  ((refl, refl), (refl, (refl, (refl, ((refl, refl), ((refl, refl), ((refl, refl), ((refl, refl), ((refl, refl), (refl, (refl, (refl, (refl, ((refl, refl), ((refl, refl), ((refl, refl), (refl, (refl, (refl, ((refl, refl), ((refl, refl), ((refl, refl), ((refl, refl), (refl, ((refl, refl), ((refl, refl), ((refl, refl), (refl, tt)))))))))))))))))))))))))))),
+                  ((refl, refl), (refl, (refl, (refl, ((refl, refl), ((refl, refl), ((refl, refl), ((refl, refl), ((refl, refl), (refl, (refl, (refl, (refl, ((refl, refl), ((refl, refl), ((refl, refl), (refl, (refl, (refl, ((refl, refl), ((refl, refl), ((refl, refl), ((refl, refl), (refl, ((refl, refl), ((refl, refl), ((refl, refl), (refl, (refl, (refl, (refl, (refl, (refl, (refl, (refl, (refl, (refl, (refl, tt)))))))))))))))))))))))))))))))))))))),
                 ),
               ),
             ),

@@ -2,6 +2,8 @@
 pub mod Certifying
 pub mod Classifying
 pub mod Numbering
+pub mod Parameters
 pub mod Reading
 pub mod Refusals
 pub mod Training
+pub mod Writing

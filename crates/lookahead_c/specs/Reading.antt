@@ -1,30 +1,11 @@
 -- What a call for reading answers in C, by what the library answers. Assumes nothing.
-use mathlib.Core.List.{List}
-use Prim.Native.Nat.{ℕ}
-use Rattle.training_file.specs.declared.refusal.Refusal.{Refusal}
-use Rattle.training_file.specs.Parameters.{byteOfKernel}
+use Rattle.training_file.specs.Refusal.{noRefusal}
 use Rattle.reading.specs.declared.reader.FileAnswer.{FileAnswer}
 use Rattle.reading.specs.declared.reader.FileAnswer.the-variants.{Refused, Accepted}
-use Rattle.reading.specs.Reading.{Reading}
-use Rattle.reading.specs.Calls.{fileAnswer, fileRefusal, tableAfter}
+use Rattle.lookahead_c.specs.declared.read.ReadAnswer.{ReadAnswer}
+use Rattle.lookahead_c.specs.Parameters.{noParameters, parameterNumbers}
 
--- the single numbers that the caller lends: n, d and the kernel's byte
-pub record ReadNumbers : Type 0 where
-  pub items : ℕ
-  pub used : ℕ
-  pub kernel : ℕ
-
--- those numbers after the call, by those before it: a refusal changes none
-abbrev pub readFound : FileAnswer → ReadNumbers → ReadNumbers
-readFound (Refused why) before = before
-readFound (Accepted p count) before = record { items = count; used = p .used; kernel = byteOfKernel (p .kernel) }
-
--- all that the caller sees after the call: the refusal answered, the table and the single numbers
-pub record ReadSeen : Type 0 where
-  pub refusal : Refusal
-  pub order : List ℕ
-  pub found : ReadNumbers
-
-abbrev pub readSeen : Reading → List ℕ → ReadNumbers → ReadSeen
-readSeen read table before =
-    record { refusal = fileRefusal (fileAnswer read); order = tableAfter read table; found = readFound (fileAnswer read) before }
+-- the refusal, n and the parameters; after a refusal 0 for each of these numbers
+abbrev pub readAnswer : FileAnswer → ReadAnswer
+readAnswer (Refused why) = record { refusal = why; items = 0; parameters = noParameters }
+readAnswer (Accepted p count) = record { refusal = noRefusal; items = count; parameters = parameterNumbers p }

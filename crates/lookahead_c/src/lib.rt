@@ -5,5 +5,7 @@
 pub mod certify;
 pub mod classify;
 mod numbering;
+pub mod parameters;
 pub mod read;
 pub mod train;
+pub mod write;

@@ -1,5 +1,5 @@
 // Runs the cases of its input through the library, a line each. They are document 01's settled examples P1 to P12, with the lines the
-// results settled there, our own E1 to E3, K1 to K4, F1 to F6 and I1 to I7, and words at the ends of the range; the table is
+// results settled there, our own E1 to E3, K1 to K4, F1 to F6, I1 to I7 and B1 to B7, and words at the ends of the range; the table is
 // tests/reference/src/settled.rs. That the definitions give the settled results is the theorem `settled`; this shows the compiled code give
 // them.
 
@@ -12,6 +12,8 @@ use lookahead::Certified;
 use lookahead::Class;
 use lookahead::Classified;
 use lookahead::Ending;
+use lookahead::Kernel;
+use lookahead::Parameters;
 use lookahead::Refusal;
 use lookahead::Trained;
 use lookahead::Training;
@@ -19,6 +21,13 @@ use text::number::put_signed;
 use training_file::bytes::signed_byte;
 use training_file::bytes::u16_at;
 use training_file::bytes::u32_at;
+use training_file::bytes::u64_at;
+use training_file::count::Count;
+use training_file::item::Item;
+use training_file::layout;
+use training_file::parameters::KernelAnswer;
+use writing::row::ROW_LENGTH;
+use writing::row::Row;
 
 // More cases than there are.
 const MOST: usize = 100;
@@ -40,10 +49,24 @@ const THIRD: usize = 108;
 
 const FEATURE: usize = 112;
 
-// The kinds of a case. Any other kind classifies.
+// Where the parameters and the items to write are: in the file's header and in its first two records.
+const HEADER: usize = 8;
+
+const RECORD_1: usize = 40;
+
+const RECORD_2: usize = 60;
+
+// The kinds of a case. Any other kind writes.
 const TRAIN: u8 = 0;
 
 const CERTIFY: u8 = 1;
+
+const CLASSIFY: u8 = 2;
+
+// The most items that a case has to write, and the most places of its output.
+const ITEMS: usize = 257;
+
+const PLACES: usize = 73;
 
 // A space and a number, of which the longest has a sign and 20 digits.
 fn show_number(number: i64) {
@@ -134,6 +157,88 @@ fn classify(file: &[u8], multipliers: &[u32], word: &[i8]) {
     }
 }
 
+fn show_count(count: Count) {
+    let Count::Counted(length) = count else {
+        show_refusal(count.refusal());
+        return;
+    };
+    io::write_all(STDOUT_FILENO, b" length ");
+    io::print_decimal(STDOUT_FILENO, length as u64);
+}
+
+fn show_byte(byte: u8) {
+    show_number(byte as i64);
+}
+
+fn show_bytes(bytes: &[u8]) {
+    let mut i = 0;
+    while i < bytes.len() {
+        show_byte(bytes[i]);
+        i += 1;
+    }
+}
+
+// The places hold 9s beforehand: what writing leaves alone shows.
+fn write(parameters: Parameters, items: &[Row], places: usize)
+    requires { ⌜ places ≤ 73 ⌝ }
+{
+    let mut output = [9u8; PLACES];
+    let lent = &mut output[0..places];
+    show_count(lookahead::write::write(parameters, items, lent));
+    io::write_all(STDOUT_FILENO, b", output");
+    show_bytes(lent);
+}
+
+// The features and the label of the record that begins there.
+fn row(case: &[u8], at: usize) -> Row
+    requires { ⌜ at + 20 ≤ length (now case) ⌝ }
+{
+    let mut row = [0i8; ROW_LENGTH];
+    let mut i = 0;
+    while i < Item::FEATURE_COUNT {
+        row[i] = signed_byte(case[at + layout::FEATURES + i]);
+        i += 1;
+    }
+    row[Item::FEATURE_COUNT] = signed_byte(case[at + layout::LABEL]);
+    row
+}
+
+fn wide(byte: u8) -> usize {
+    byte as usize
+}
+
+// The parameters of the case's header with a kernel, which is judged apart.
+fn parameters(case: &[u8], kernel: Kernel) -> Parameters
+    requires { ⌜ length (now case) ≡ 113 ⌝ }
+{
+    Parameters {
+        used: wide(case[HEADER + layout::FEATURES_IN_USE]),
+        kernel,
+        grid: u32_at(case, HEADER + layout::GRID),
+        ceiling: u32_at(case, HEADER + layout::CEILING),
+        second_ceiling: u32_at(case, HEADER + layout::SECOND_CEILING),
+        tolerance: u64_at(case, HEADER + layout::TOLERANCE),
+        budget: u32_at(case, HEADER + layout::BUDGET),
+    }
+}
+
+// The first item is that of record 1, every other one that of record 2.
+fn write_case(case: &[u8], count: usize, places: usize)
+    requires { ⌜ length (now case) ≡ 113 ⌝ }
+{
+    let answer = Kernel::from_byte(case[HEADER + layout::KERNEL]);
+    let KernelAnswer::Known(kernel) = answer else {
+        show_refusal(answer.refusal());
+        return;
+    };
+    if ITEMS < count || PLACES < places {
+        return;
+    }
+    let mut items = [row(case, RECORD_2); ITEMS];
+    items[0] = row(case, RECORD_1);
+    write(parameters(case, kernel), &items[0..count], places);
+}
+
 // The bytes that come after their length, none where the case hasn't so many.
 fn part(case: &[u8], at: usize) -> &[u8]
     requires { ⌜ at + 2 ≤ length (now case) ⌝ }
@@ -158,8 +263,11 @@ fn show_case(case: &[u8])
         train(file, [first, second, u32_at(case, THIRD)]);
     } else if kind == CERTIFY {
         certify(file, &[first, second]);
-    } else {
+    } else if kind == CLASSIFY {
         classify(file, &[first, second], &[signed_byte(case[FEATURE])]);
+    } else {
+        // How many items there are, and how many places the output has.
+        write_case(case, first as usize, second as usize);
     }
     io::write_all(STDOUT_FILENO, b"\n");
 }

@@ -1,17 +1,19 @@
 //! The calls made for one file, each answered by the library and the reference.
 
-use crate::answer::ACCEPTED;
+use crate::answer::{ACCEPTED, NOTHING_READ};
 use crate::expected;
 use crate::library::{self, CertifyAnswer, ClassifyAnswer, ReadAnswer, TrainAnswer};
 use crate::report::{Difference, Tally};
+use crate::written::{compare_anew, compare_write};
 use reference::cases::Drawn;
 use reference::file::{Problem, MOST_RECORDS};
-use reference::generate::{multipliers, words, Random};
+use reference::generate::{multipliers, words, writing, Random};
 use std::fmt::{Arguments, Debug};
 
-/// All calls for one file; the first difference ends them. Reading comes last:
-/// so its draws change none of those of the other calls, and a difference noted
-/// with its seed and file number is met there again.
+/// All calls for one file; the first difference ends them. Reading comes after the
+/// calls that were there before it, and writing after all: so their draws change none
+/// of those of the others, and a difference noted with its seed and file number is met
+/// there again.
 pub fn compare(file: &[u8], random: &mut Random, tally: &mut Tally) -> Result<(), Box<Difference>> {
     let mut drawn = Drawn::of(file.to_vec());
     let trained = compare_train(file, drawn.problem(), random, tally)?;
@@ -26,12 +28,31 @@ pub fn compare(file: &[u8], random: &mut Random, tally: &mut Tally) -> Result<()
         compare_classify(file, &multipliers, &word, random, tally)?;
         drawn.classify(multipliers, word);
     }
+    let places = table_length(items(drawn.problem(), random), random);
+    compare_read(file, places, random, tally)?;
+    compare_writing(file, &mut drawn, random, tally)?;
     tally.cases.count(&drawn);
-    compare_read(file, drawn.problem(), random, tally)
+    Ok(())
+}
+
+/// Writes what is drawn, and an accepted file anew.
+fn compare_writing(
+    file: &[u8],
+    drawn: &mut Drawn,
+    random: &mut Random,
+    tally: &mut Tally,
+) -> Result<(), Box<Difference>> {
+    let handed = writing::handed_in(random);
+    compare_write(file, &handed, random, tally)?;
+    drawn.write(handed);
+    match drawn.problem() {
+        Some(_) => compare_anew(file, random, tally),
+        None => Ok(()),
+    }
 }
 
 /// The answer that both gave, or the difference.
-fn agreed<A: PartialEq + Debug>(
+pub fn agreed<A: PartialEq + Debug>(
     call: &str,
     file: &[u8],
     handed: Arguments,
@@ -49,26 +70,22 @@ fn items(problem: Option<&Problem>, random: &mut Random) -> usize {
     problem.map_or(random.below(5) as usize, |problem| problem.items.len())
 }
 
-/// Reads with a table that may be shorter or longer than n.
-fn compare_read(
+/// Reads with a table of so many places.
+pub fn compare_read(
     file: &[u8],
-    problem: Option<&Problem>,
+    places: usize,
     random: &mut Random,
     tally: &mut Tally,
-) -> Result<(), Box<Difference>> {
-    let n = items(problem, random);
-    let places = table_length(n, random);
+) -> Result<ReadAnswer, Box<Difference>> {
     let before = ReadAnswer {
-        returned: ACCEPTED,
-        items: random.draw() as usize,
-        used: random.draw() as usize,
-        kernel: random.draw() as u8,
+        returned: NOTHING_READ,
         order: (0..places).map(|_| random.draw() as u16).collect(),
         surroundings_kept: true,
     };
     let expected = expected::read(file, &before);
     let answered = library::read(file, &before, random);
-    tally.count("read", expected.returned.number, expected.kernel);
+    let returned = expected.returned;
+    tally.count("read", returned.answer.number, returned.parameters.kernel);
     agreed(
         "read",
         file,
@@ -76,7 +93,6 @@ fn compare_read(
         expected,
         answered,
     )
-    .map(drop)
 }
 
 /// Lengths around n and at the ends, and any between.

@@ -1,19 +1,10 @@
 //! What the reference expects to be seen after a call: its answer where it
 //! gives one, and what stood there before where it refuses.
 
-use crate::answer::{refused, ACCEPTED};
-use crate::library::{CertifyAnswer, ClassifyAnswer, ReadAnswer, TrainAnswer};
-use reference::kernel::Kernel;
+use crate::answer::{reading, refused, ACCEPTED};
+use crate::library::{CertifyAnswer, ClassifyAnswer, ReadAnswer, TrainAnswer, WriteAnswer};
+use reference::generate::writing::Writing;
 use reference::{Class, Ending};
-
-/// "kernel: 0 linear, 1 square" of document 01's header, and 2 the overlap.
-fn kernel_number(kernel: Kernel) -> u8 {
-    match kernel {
-        Kernel::Linear => 0,
-        Kernel::Square => 1,
-        Kernel::Overlap => 2,
-    }
-}
 
 /// "ending: 1 converged, 2 stuck, 3 spent" of the C interface.
 fn ending_number(ending: Ending) -> u8 {
@@ -35,15 +26,7 @@ fn class_number(class: Class) -> u8 {
 
 pub fn read(file: &[u8], before: &ReadAnswer) -> ReadAnswer {
     let mut after = before.clone();
-    match reference::contents(file, &mut after.order) {
-        Err(refusal) => after.returned = refused(refusal),
-        Ok(contents) => {
-            after.returned = ACCEPTED;
-            after.items = contents.items;
-            after.used = contents.features;
-            after.kernel = kernel_number(contents.kernel);
-        }
-    }
+    after.returned = reading(reference::contents(file, &mut after.order));
     after
 }
 
@@ -94,4 +77,16 @@ pub fn classify(
             ..before.clone()
         },
     }
+}
+
+pub fn write(handed: &Writing, before: &WriteAnswer) -> WriteAnswer {
+    let mut after = before.clone();
+    match reference::write::write(&handed.numbers, &handed.rows, &mut after.output) {
+        Err(refusal) => after.returned = refused(refusal),
+        Ok(length) => {
+            after.returned = ACCEPTED;
+            after.length = length;
+        }
+    }
+    after
 }

@@ -1,14 +1,16 @@
 //! The library under test, called over its C interface.
 //!
 //! Everything that is lent stands between random places, which must be found
-//! again as they were; the file, the multipliers and the word that a call may
-//! only read are looked at afterwards too.
+//! again as they were; the file, the multipliers, the word and the items that a call
+//! may only read are looked at afterwards too.
 
 use crate::answer::declared::{
-    lookahead_certify, lookahead_classify, lookahead_read, lookahead_train,
+    lookahead_certify, lookahead_classify, lookahead_read, lookahead_train, lookahead_write,
 };
-use crate::answer::LookaheadAnswer;
+use crate::answer::{parameters, LookaheadAnswer, LookaheadItem, LookaheadReading};
+use reference::generate::writing::Writing;
 use reference::generate::Random;
+use reference::write::Row;
 
 /// Places kept on either side of what is lent.
 const MARGIN: usize = 4;
@@ -56,10 +58,7 @@ impl<T: Copy + PartialEq> Lent<T> {
 /// All that can be seen after a reading call.
 #[derive(Clone, PartialEq, Eq, Debug)]
 pub struct ReadAnswer {
-    pub returned: LookaheadAnswer,
-    pub items: usize,
-    pub used: usize,
-    pub kernel: u8,
+    pub returned: LookaheadReading,
     pub order: Vec<u16>,
     pub surroundings_kept: bool,
 }
@@ -94,6 +93,15 @@ pub struct ClassifyAnswer {
     pub surroundings_kept: bool,
 }
 
+/// All that can be seen after a writing call.
+#[derive(Clone, PartialEq, Eq, Debug)]
+pub struct WriteAnswer {
+    pub returned: LookaheadAnswer,
+    pub length: usize,
+    pub output: Vec<u8>,
+    pub surroundings_kept: bool,
+}
+
 /// Calls reading on what `before` holds and gives what stands there after.
 pub fn read(file: &[u8], before: &ReadAnswer, random: &mut Random) -> ReadAnswer {
     let file = Lent::new(file, || random.draw() as u8);
@@ -101,17 +109,8 @@ pub fn read(file: &[u8], before: &ReadAnswer, random: &mut Random) -> ReadAnswer
     let mut after = before.clone();
     // SAFETY: every pointer is to a list of the length handed over with it, or
     // to a place of its own.
-    after.returned = unsafe {
-        lookahead_read(
-            file.read(),
-            file.length,
-            order.write(),
-            order.length,
-            &mut after.items,
-            &mut after.used,
-            &mut after.kernel,
-        )
-    };
+    after.returned =
+        unsafe { lookahead_read(file.read(), file.length, order.write(), order.length) };
     after.order = order.contents();
     after.surroundings_kept = file.kept() && order.margins_kept();
     after
@@ -195,4 +194,29 @@ pub fn classify(
     };
     after.surroundings_kept = file.kept() && multipliers.kept() && word.kept();
     after
+}
+
+/// Calls writing; the length and the output of `before` stand there ahead of the call.
+pub fn write(handed: &Writing, before: &WriteAnswer, random: &mut Random) -> WriteAnswer {
+    let rows = Lent::new(&handed.rows, || any_row(random));
+    let mut output = Lent::new(&before.output, || random.draw() as u8);
+    let mut after = before.clone();
+    // SAFETY: as in `read`; a row is the memory of an item.
+    after.returned = unsafe {
+        lookahead_write(
+            parameters(&handed.numbers),
+            rows.read().cast::<LookaheadItem>(),
+            rows.length,
+            output.write(),
+            output.length,
+            &mut after.length,
+        )
+    };
+    after.output = output.contents();
+    after.surroundings_kept = rows.kept() && output.margins_kept();
+    after
+}
+
+fn any_row(random: &mut Random) -> Row {
+    Row::default().map(|_| random.draw() as i8)
 }

@@ -1,4 +1,4 @@
-//! Compares the library's four calls with the reference on random files.
+//! Compares the library's five calls with the reference on random files.
 //!
 //! `compare [--seed N] [--files N | --soak SECONDS | --only FILE]`: so many
 //! files, or files until the time is over, or one file by its number. The exit
@@ -12,6 +12,7 @@ mod flags;
 mod library;
 mod report;
 mod watch;
+mod written;
 
 use flags::{Flags, Until, DEFAULT_FILES};
 use reference::generate::{any_file, systematic, Random};

@@ -43,10 +43,12 @@ struct Call {
     refusals: &'static [u8],
 }
 
-const CALLS: [Call; 4] = [
+const KERNELS: [(u8, &str); 3] = [(0, "linear"), (1, "square"), (2, "overlap")];
+
+const CALLS: [Call; 5] = [
     Call {
         name: "read",
-        answers: &[(0, "linear"), (1, "square"), (2, "overlap")],
+        answers: &KERNELS,
         refusals: &[1, 2, 3, 16, 4, 5],
     },
     Call {
@@ -63,6 +65,11 @@ const CALLS: [Call; 4] = [
         name: "classify",
         answers: &[(1, "looked up"), (2, "passed over"), (3, "undecided")],
         refusals: &[1, 2, 3, 16, 4, 5, 6, 7, 8, 9],
+    },
+    Call {
+        name: "write",
+        answers: &KERNELS,
+        refusals: &[2, 1, 4, 5, 10],
     },
 ];
 

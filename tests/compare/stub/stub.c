@@ -423,31 +423,57 @@ static void put_order(Problem *p, uint16_t *order, size_t len) {
     if (WRONG(98)) order[len] = 0;
 }
 
-lookahead_answer lookahead_read(const uint8_t *file, size_t len, uint16_t *order, size_t order_len, size_t *items,
-                                size_t *used, uint8_t *kernel) {
+/* The parameters as the header has them. */
+static lookahead_parameters parameters_of(const uint8_t *f) {
+    lookahead_parameters p = {
+        .used = f[4],
+        .kernel = f[5],
+        .grid = (uint32_t)field(f + 8, 4),
+        .ceiling = (uint32_t)field(f + 12, 4),
+        .second_ceiling = (uint32_t)field(f + 28, 4),
+        .tolerance = field(f + 16, 8),
+        .budget = (uint32_t)field(f + 24, 4),
+    };
+    if (WRONG(108)) p.used = 16;
+    if (WRONG(109)) p.kernel = 1 - p.kernel;
+    if (WRONG(110)) p.kernel += 1;
+    if (WRONG(217) && p.kernel == LOOKAHEAD_OVERLAP) p.kernel = LOOKAHEAD_SQUARE;
+    if (WRONG(218) && p.kernel == LOOKAHEAD_OVERLAP) p.kernel = LOOKAHEAD_LINEAR;
+    if (WRONG(219)) p.kernel &= 1;
+    if (WRONG(227)) p.grid = p.ceiling;
+    if (WRONG(228)) p.ceiling = p.grid;
+    if (WRONG(229) && p.second_ceiling == 0) p.second_ceiling = p.ceiling;
+    if (WRONG(230)) p.second_ceiling = p.ceiling;
+    if (WRONG(231)) p.tolerance = (uint32_t)p.tolerance;
+    if (WRONG(232)) p.tolerance *= 2;
+    if (WRONG(233)) p.budget = (uint16_t)p.budget;
+    if (WRONG(234)) p.grid &= 0xfffff;
+    if (WRONG(235)) p.ceiling = (uint16_t)p.ceiling;
+    if (WRONG(236)) p.second_ceiling = (uint16_t)p.second_ceiling;
+    return p;
+}
+
+lookahead_reading lookahead_read(const uint8_t *file, size_t len, uint16_t *order, size_t order_len) {
     Problem p;
-    lookahead_answer answer = read_file(&p, file, len);
-    int number = answer.number;
+    lookahead_reading read = {.answer = read_file(&p, file, len)};
+    int number = read.answer.number;
     if (WRONG(99) && (number == 4 || number == 5)) put_order(&p, order, order_len);
     if (WRONG(160) && (number == 3 || number == 16)) put_order(&p, order, order_len);
-    if (WRONG(100) && number) *items = 0;
-    if (WRONG(101) && number > 2) *used = file[4];
-    if (WRONG(102) && number > 2) *kernel = file[5];
-    if (WRONG(103) && !number && order_len < (size_t)p.n) return refused(6);
+    if (WRONG(100) && number == 5) read.items = (size_t)p.n;
+    if (WRONG(101) && number > 2) read.parameters.used = file[4];
+    if (WRONG(102) && number > 2) read.parameters.kernel = file[5];
+    if (WRONG(237) && number > 2) read.parameters = parameters_of(file);
+    if (WRONG(103) && !number && order_len < (size_t)p.n) return (lookahead_reading){.answer = refused(6)};
     if (WRONG(104) && len > 0) ((uint8_t *)file)[len - 1] ^= 1;
-    if (WRONG(156)) answer.record = 0;
-    if (number) return answer;
+    if (WRONG(156)) read.answer.record = 0;
+    if (number) return read;
     put_order(&p, order, order_len);
-    *items = (size_t)p.n;
-    if (WRONG(105)) *items = field(file, 2);
-    if (WRONG(106) && order_len < *items) *items = order_len;
-    if (WRONG(107)) *items = order_len;
-    *used = (size_t)(WRONG(108) ? 16 : p.d);
-    *kernel = (uint8_t)(WRONG(109) ? 1 - p.kernel : WRONG(110) ? 1 + p.kernel : p.kernel);
-    if (WRONG(217) && p.kernel == LOOKAHEAD_OVERLAP) *kernel = LOOKAHEAD_SQUARE;
-    if (WRONG(218) && p.kernel == LOOKAHEAD_OVERLAP) *kernel = LOOKAHEAD_LINEAR;
-    if (WRONG(219)) *kernel &= 1;
-    return answer;
+    read.items = (size_t)p.n;
+    read.parameters = parameters_of(file);
+    if (WRONG(105)) read.items = field(file, 2);
+    if (WRONG(106) && order_len < read.items) read.items = order_len;
+    if (WRONG(107)) read.items = order_len;
+    return read;
 }
 
 lookahead_answer lookahead_train(const uint8_t *file, size_t len, uint32_t *multipliers, size_t multipliers_len,
@@ -559,4 +585,177 @@ lookahead_answer lookahead_classify(const uint8_t *file, size_t len, const uint3
     if (score == 0 && on_the_line(&p, word)) *class_answer = WRONG(23) ? 1 : WRONG(119) ? 2 : 3;
     else *class_answer = score > 0 ? 1 : WRONG(119) ? 3 : 2;
     return answer;
+}
+
+/* For mutations that judge the parameters by some of their bytes, or as signed numbers that have no lowest value. */
+static lookahead_parameters as_judged(lookahead_parameters p) {
+    if (WRONG(238)) p.used = (uint8_t)p.used;
+    if (WRONG(239)) p.used = (uint32_t)p.used;
+    if (WRONG(240) && (int64_t)p.used < 0) p.used = 1;
+    if (WRONG(241) && (int8_t)p.kernel < 0) p.kernel = 0;
+    if (WRONG(242) && (int32_t)p.grid < 0) p.grid = 1;
+    if (WRONG(243) && (int32_t)p.ceiling < 0) p.ceiling = 1;
+    if (WRONG(244) && (int32_t)p.second_ceiling < 0) p.second_ceiling = 1;
+    if (WRONG(245) && (int64_t)p.tolerance < 0) p.tolerance = 0;
+    if (WRONG(246) && (int32_t)p.budget < 0) p.budget = 0;
+    return p;
+}
+
+/* 2, or 0 for parameters in their ranges. */
+static uint8_t judge_parameters(lookahead_parameters handed) {
+    const lookahead_parameters p = as_judged(handed);
+    if (p.used < 1 - WRONG(247) || p.used > 16 + WRONG(248) - WRONG(249)) return 2;
+    if (p.kernel > LOOKAHEAD_OVERLAP + WRONG(250) - WRONG(251)) return 2;
+    if (p.grid < 1 - WRONG(252) || p.grid > 1048576 + WRONG(253) - WRONG(254)) return 2;
+    if (p.ceiling < 1 - WRONG(255) || p.ceiling > 65536 + WRONG(256) - WRONG(257)) return 2;
+    if (p.second_ceiling > 65536 + WRONG(258) - WRONG(259) || (WRONG(260) && p.second_ceiling == 0)) return 2;
+    if (p.tolerance > 1000000000000 + WRONG(261) - WRONG(262)) return 2;
+    return p.budget > 1000000 + WRONG(263) - WRONG(264) ? 2 : 0;
+}
+
+/* The label as it is judged and written; mutations take a wrong one for another. */
+static int8_t label_of(const lookahead_item *item) {
+    if (WRONG(265) && item->label == 0) return 2;
+    if (WRONG(266) && item->label == -1) return 2;
+    if (WRONG(267) && item->label != 1) return 2;
+    return WRONG(268) ? item->label & 3 : item->label;
+}
+
+static int is_sound(const lookahead_item *item, size_t used) {
+    int8_t label = label_of(item);
+    int highest = HIGHEST - WRONG(272), lowest = LOWEST - WRONG(270) + WRONG(271);
+    static const int8_t zeros[LOOKAHEAD_FEATURES];
+    size_t end = LOOKAHEAD_FEATURES - WRONG(273);
+    uint8_t beyond = 0;
+    for (int k = 0; k < LOOKAHEAD_FEATURES - WRONG(269); k++) beyond |= (item->features[k] > highest) | (item->features[k] < lowest);
+    int past = used < end && memcmp(item->features + used, zeros, end - used) != 0;
+    if (WRONG(274) || WRONG(275)) past = 0;
+    return (label == 1 || label == 2) && !beyond && !past;
+}
+
+/* Whether both labels are there; together they are 3. */
+static int are_both(int labels, size_t n) {
+    return labels == 3 || (WRONG(276) && labels == 1) || (WRONG(277) && labels == 2) || (WRONG(278) && n == 0);
+}
+
+/* 4, 5, or 0 for sound items of both labels. */
+static uint8_t judge_rows(const lookahead_item *items, size_t n, size_t used) {
+    int labels = 0, unsound = 0;
+    for (size_t i = 0; i < n; i++) {
+        int left_out = (WRONG(279) && i == 0) || (WRONG(280) && i + 1 == n);
+        unsound |= !is_sound(&items[i], used) && !left_out;
+        if (unsound && !WRONG(281)) return 4;
+        labels |= label_of(&items[i]);
+    }
+    if (!are_both(labels, n)) return 5;
+    return unsound ? 4 : 0;
+}
+
+static size_t file_length(size_t n) { return 32 + 20 * n; }
+
+/* The number of the refusal, 0 for none. */
+static uint8_t judge_writing(const lookahead_parameters *p, const lookahead_item *items, size_t n, size_t output_len) {
+    int is_short = output_len < (WRONG(282) ? LOOKAHEAD_MOST_FILE : file_length(n) + (size_t)WRONG(283) - (size_t)WRONG(284));
+    if (WRONG(285) && n > MOST) return 1;
+    if (WRONG(286) && is_short) return 10;
+    if (judge_parameters(*p)) return 2;
+    if (WRONG(287) && judge_rows(items, n, p->used) == 4) return 4;
+    if (n > MOST - WRONG(288) + WRONG(289)) return 1;
+    uint8_t number = judge_rows(items, n, p->used);
+    if (WRONG(290) && number == 5 && is_short) return 10;
+    if (number) return number;
+    return is_short ? 10 : 0;
+}
+
+/* The parameters as they are written: as they were handed over, but for mutations. */
+static lookahead_parameters as_written(lookahead_parameters p) {
+    uint32_t grid = p.grid, ceiling = p.ceiling, second = p.second_ceiling;
+    if (WRONG(291) && second == 0) p.second_ceiling = ceiling;
+    if (WRONG(292) && second == ceiling) p.second_ceiling = 0;
+    if (WRONG(293)) p.second_ceiling = 0;
+    if (WRONG(294)) p.second_ceiling = (uint16_t)second;
+    if (WRONG(295)) p.ceiling = second, p.second_ceiling = ceiling;
+    if (WRONG(296)) p.ceiling = grid, p.grid = ceiling;
+    if (WRONG(297)) p.ceiling = (uint16_t)ceiling;
+    if (WRONG(298)) p.tolerance = (uint32_t)p.tolerance;
+    if (WRONG(299)) p.budget = (uint16_t)p.budget;
+    if (WRONG(300)) p.grid = __builtin_bswap32(grid);
+    if (WRONG(301)) p.used = 16;
+    if (WRONG(302)) p.kernel &= 1;
+    return p;
+}
+
+/* A field, low byte first. */
+static void put(uint8_t *at, uint64_t value, int width) {
+    for (int k = 0; k < width; k++) at[k] = (uint8_t)(value >> 8 * k);
+}
+
+static void put_header(uint8_t *h, lookahead_parameters handed, size_t n) {
+    const lookahead_parameters p = as_written(handed);
+    put(h, WRONG(303) ? n & 255 : n, 2);
+    put(h + 2, WRONG(304) ? 0 : WRONG(305) ? n : 1, 2);
+    h[4] = (uint8_t)p.used;
+    h[5] = p.kernel;
+    if (!WRONG(306)) put(h + 6, 0, 2);
+    put(h + 8, p.grid, 4);
+    put(h + 12, p.ceiling, 4);
+    put(h + 16, p.tolerance, 8);
+    put(h + 24, p.budget, 4);
+    put(h + 28, p.second_ceiling, 4);
+}
+
+/* The next number of record i + 1 of n. */
+static size_t next_written(size_t i, size_t n) {
+    if (WRONG(305)) return i; /* chained from the last to the first */
+    if (WRONG(307)) return i + 2;
+    if (WRONG(308)) return i + 1 < n ? i + 2 : 1;
+    if (WRONG(309)) return i + 1 < n ? i + 1 : 0;
+    return i + 1 < n ? i + 2 : 0;
+}
+
+static void put_record(uint8_t *r, const lookahead_item *item, size_t used, size_t next) {
+    int8_t label = label_of(item);
+    put(r, WRONG(310) ? next & 255 : next, 2);
+    r[2] = (uint8_t)(WRONG(311) ? 3 - label : label);
+    if (!WRONG(312)) r[3] = WRONG(313);
+    memcpy(r + 4, item->features, WRONG(314) ? used : LOOKAHEAD_FEATURES);
+    for (int k = 0; k < LOOKAHEAD_FEATURES; k++) {
+        if (WRONG(274) && (size_t)k >= used) r[4 + k] = 0;
+        if (WRONG(315)) r[4 + k] = (uint8_t)abs(item->features[k]);
+        if (WRONG(316)) r[4 + k] = (uint8_t)item->features[LOOKAHEAD_FEATURES - 1 - k];
+    }
+}
+
+static void put_file(uint8_t *file, lookahead_parameters p, const lookahead_item *items, size_t n) {
+    put_header(file, p, n);
+    for (size_t i = 0; i < n; i++) put_record(file + file_length(i), &items[WRONG(317) ? n - 1 - i : i], p.used, next_written(i, n));
+}
+
+/* For mutations that change something where the call is refused. */
+static void change_refused(uint8_t number, lookahead_parameters p, const lookahead_item *items, size_t n, uint8_t *output,
+                           size_t output_len, size_t *length) {
+    if (WRONG(318)) memset(output, 0, output_len);
+    if (WRONG(319) && number == 10 && output_len >= 32) put_header(output, p, n);
+    if (WRONG(320) && number == 10) *length = file_length(n);
+    if (WRONG(321)) *length = 0;
+    if (WRONG(322) && n > 0) ((lookahead_item *)items)[0].label = 1;
+}
+
+lookahead_answer lookahead_write(lookahead_parameters parameters, const lookahead_item *items, size_t items_len,
+                                 uint8_t *output, size_t output_len, size_t *length) {
+    size_t n = WRONG(323) ? (uint8_t)items_len : WRONG(324) ? (uint16_t)items_len : items_len;
+    uint8_t number = judge_writing(&parameters, items, n, output_len);
+    if (number) {
+        change_refused(number, parameters, items, n, output, output_len, length);
+        return (lookahead_answer){number, WRONG(325) && number == 4};
+    }
+    put_file(output, parameters, items, n);
+    *length = file_length(n);
+    if (WRONG(326) && output_len > *length) output[*length] = 0;
+    if (WRONG(327)) memset(output + *length, 0, output_len - *length);
+    if (WRONG(328)) output[output_len] = 0;
+    if (WRONG(329)) *length = output_len;
+    if (WRONG(330)) *length -= 32;
+    if (WRONG(331)) *length = LOOKAHEAD_MOST_FILE;
+    return (lookahead_answer){0, WRONG(332) ? (uint16_t)n : 0};
 }

@@ -1,17 +1,14 @@
 //! Reading alone: what a caller can know of a file ahead of a training.
 
-use crate::file::read;
-use crate::kernel::Kernel;
+use crate::file::{numbers, read, Numbers};
 use crate::refusal::Refusal;
 
-/// n, d and the kernel of an accepted file.
+/// n and the parameters of an accepted file.
 #[derive(Clone, Copy, PartialEq, Eq, Debug)]
 pub struct Contents {
     /// n, the chained records.
     pub items: usize,
-    /// d, features in use.
-    pub features: usize,
-    pub kernel: Kernel,
+    pub parameters: Numbers,
 }
 
 /// Reads the file. The first n places of the lent table hold the numbers of the
@@ -24,7 +21,6 @@ pub fn contents(file: &[u8], order: &mut [u16]) -> Result<Contents, Refusal> {
     }
     Ok(Contents {
         items: problem.items.len(),
-        features: problem.parameters.features,
-        kernel: problem.parameters.kernel,
+        parameters: numbers(file),
     })
 }

@@ -36,9 +36,37 @@ impl Label {
             Label::PassedOver => -1,
         }
     }
+
+    /// "the label (1 looked up, y = +1; 2 passed over, y = −1)", in a record and in
+    /// an item handed over.
+    pub fn numbered(number: i64) -> Option<Label> {
+        match number {
+            1 => Some(Label::LookedUp),
+            2 => Some(Label::PassedOver),
+            _ => None,
+        }
+    }
 }
 
-/// The header's fields that training uses.
+/// The parameters as a header has them and as a caller hands them over: any
+/// numbers.
+#[derive(Clone, Copy, PartialEq, Eq, Debug)]
+pub struct Numbers {
+    /// d, features in use.
+    pub used: usize,
+    pub kernel: u8,
+    /// S, grid units per 1.
+    pub grid: u32,
+    /// c, the ceiling of items looked up.
+    pub ceiling: u32,
+    /// The second ceiling, that of items passed over: "0 means the same as c".
+    pub second_ceiling: u32,
+    /// t, the tolerance.
+    pub tolerance: u64,
+    pub budget: u32,
+}
+
+/// The parameters once they are judged, as training uses them.
 #[derive(Clone, Debug)]
 pub struct Parameters {
     /// d, features in use.
@@ -101,7 +129,8 @@ pub fn read(file: &[u8]) -> Result<Problem, Refusal> {
     let parameters = judge_header(file, records)?;
     let chain = walk(file, records)?;
     let items = judge_items(file, &chain, parameters.features)?;
-    judge_labels(&items)?;
+    let labels: Vec<Label> = items.iter().map(|item| item.label).collect();
+    judge_labels(&labels)?;
     Ok(Problem { parameters, items })
 }
 
@@ -122,33 +151,47 @@ fn judge_length(file: &[u8]) -> Result<usize, u8> {
 /// Refusal 2: a header field beyond its range, or a spare byte not 0.
 /// "A first record over m is refused with 2."
 fn judge_header(file: &[u8], records: usize) -> Result<Parameters, u8> {
-    let first = number(file, 2, 2);
-    let features = number(file, 4, 1);
-    let kernel = Kernel::numbered(number(file, 5, 1)).ok_or(2)?;
-    let units = number(file, 8, 4);
-    let ceiling = number(file, 12, 4);
-    let tolerance = number(file, 16, 8);
-    let budget = number(file, 24, 4);
-    let second_ceiling = number(file, 28, 4);
-    let in_range = first <= records as u64
-        && (1..=STORED_FEATURES as u64).contains(&features)
-        && (1..=MOST_UNITS).contains(&units)
-        && (1..=HIGHEST_CEILING).contains(&ceiling)
-        && tolerance <= HIGHEST_TOLERANCE
-        && budget <= HIGHEST_BUDGET
-        && second_ceiling <= HIGHEST_CEILING;
-    let spare_zero = number(file, 6, 2) == 0;
-    if !in_range || !spare_zero {
+    let first = number(file, 2, 2) as usize;
+    let spare = number(file, 6, 2);
+    if first > records || spare != 0 {
+        return Err(2);
+    }
+    judge_numbers(&numbers(file))
+}
+
+/// The parameters in a header.
+pub fn numbers(file: &[u8]) -> Numbers {
+    Numbers {
+        used: file[4].into(),
+        kernel: file[5],
+        grid: number(file, 8, 4) as u32,
+        ceiling: number(file, 12, 4) as u32,
+        tolerance: number(file, 16, 8),
+        budget: number(file, 24, 4) as u32,
+        second_ceiling: number(file, 28, 4) as u32,
+    }
+}
+
+/// Refusal 2, for the parameters: one beyond its range.
+pub fn judge_numbers(numbers: &Numbers) -> Result<Parameters, u8> {
+    let kernel = Kernel::numbered(numbers.kernel.into()).ok_or(2)?;
+    let in_range = (1..=STORED_FEATURES).contains(&numbers.used)
+        && (1..=MOST_UNITS).contains(&numbers.grid.into())
+        && (1..=HIGHEST_CEILING).contains(&numbers.ceiling.into())
+        && u64::from(numbers.second_ceiling) <= HIGHEST_CEILING
+        && numbers.tolerance <= HIGHEST_TOLERANCE
+        && u64::from(numbers.budget) <= HIGHEST_BUDGET;
+    if !in_range {
         return Err(2);
     }
     Ok(Parameters {
-        features: features as usize,
+        features: numbers.used,
         kernel,
-        units: units.into(),
-        ceiling: ceiling.into(),
-        second_ceiling: second_ceiling.into(),
-        tolerance: tolerance.into(),
-        budget: budget as u32,
+        units: numbers.grid.into(),
+        ceiling: numbers.ceiling.into(),
+        second_ceiling: numbers.second_ceiling.into(),
+        tolerance: numbers.tolerance.into(),
+        budget: numbers.budget,
     })
 }
 
@@ -186,28 +229,29 @@ fn judge_items(file: &[u8], chain: &[usize], features: usize) -> Result<Vec<Item
 /// feature past d not 0.
 fn judge_item(file: &[u8], number: usize, features: usize) -> Result<Item, u8> {
     let bytes = record(file, number);
-    let label = match bytes[2] {
-        1 => Label::LookedUp,
-        2 => Label::PassedOver,
-        _ => return Err(4),
-    };
+    let label = Label::numbered(bytes[2].into()).ok_or(4)?;
     let stored: Vec<i8> = bytes[4..].iter().map(|&byte| byte as i8).collect();
-    let (used, past) = stored.split_at(features);
-    let sound = bytes[3] == 0 && used.iter().all(|&f| in_range(f)) && past.iter().all(|&f| f == 0);
-    if !sound {
+    if bytes[3] != 0 || !are_features(&stored, features) {
         return Err(4);
     }
     Ok(Item {
         record: number,
         label,
-        features: used.to_vec(),
+        features: stored[..features].to_vec(),
     })
 }
 
+/// Whether an item can have these sixteen features: the first d are in their
+/// range, and those past d are 0.
+pub fn are_features(stored: &[i8], features: usize) -> bool {
+    let (used, past) = stored.split_at(features);
+    used.iter().all(|&f| in_range(f)) && past.iter().all(|&f| f == 0)
+}
+
 /// Refusal 5: one label, or both, has no item.
-fn judge_labels(items: &[Item]) -> Result<(), u8> {
-    let has = |label| items.iter().any(|item| item.label == label);
-    if has(Label::LookedUp) && has(Label::PassedOver) {
+pub fn judge_labels(labels: &[Label]) -> Result<(), u8> {
+    let both = Label::BOTH.iter().all(|label| labels.contains(label));
+    if both {
         Ok(())
     } else {
         Err(5)

@@ -23,6 +23,7 @@ pub mod settled;
 mod state;
 pub mod thresholds;
 mod training;
+pub mod write;
 
 pub use certify::certify;
 pub use classify::{classify, Class};

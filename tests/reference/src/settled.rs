@@ -1,7 +1,7 @@
 //! The one table of settled examples: document 01's P1 to P12, with P12's second
 //! half as document 02, request (e), has it; our own E1 to E3 of that request, K1
-//! to K4 of (k), F1 to F6 of (f) and I1 to I7 of (i); and W1 to W3, words at the
-//! ends of the range, which the paper has run only.
+//! to K4 of (k), F1 to F6 of (f), I1 to I7 of (i) and B1 to B7 of (b); and W1 to
+//! W3, words at the ends of the range, which the paper has run only.
 //!
 //! The results are written down and not worked out. What document 01 leaves out
 //! of one, as the thresholds of P4, is as the library's theorem `settled` has it.
@@ -16,6 +16,13 @@ pub enum Call {
     Train,
     Certify([u32; 2]),
     Classify([u32; 2], i8),
+    /// Writes the parameters of the file's header and so many items, into an
+    /// output of so many places that hold 9s. The first item is that of record 1,
+    /// every other one that of record 2.
+    Write {
+        items: usize,
+        places: usize,
+    },
 }
 
 pub struct Case {
@@ -135,6 +142,7 @@ pub fn table() -> Vec<Case> {
     cases.extend(words_and_chains());
     cases.extend(second_ceilings());
     cases.extend(overlaps());
+    cases.extend(files_written());
     cases.extend(words_at_the_ends());
     cases
 }
@@ -174,6 +182,20 @@ fn certify(name: &'static str, file: &Draft, a: [u32; 2], result: &'static str) 
 
 fn classify(name: &'static str, file: &Draft, a: [u32; 2], word: i8, result: &'static str) -> Case {
     let call = Call::Classify(a, word);
+    Case {
+        call,
+        ..train(name, file, result)
+    }
+}
+
+fn write(
+    name: &'static str,
+    file: &Draft,
+    items: usize,
+    places: usize,
+    result: &'static str,
+) -> Case {
+    let call = Call::Write { items, places };
     Case {
         call,
         ..train(name, file, result)
@@ -251,6 +273,70 @@ fn overlaps() -> Vec<Case> {
         classify("I5", i1, [10, 10], 0, "undecided"),
         classify("I6", i2, [1, 1], -127, "passed over"),
         train("I7", i7, "refused 2 0, multipliers 9 9 9"),
+    ]
+}
+
+/// Every parameter at its greatest, so that the order of its bytes shows, and
+/// features at both ends of their range.
+fn b2() -> Draft {
+    let mut features = vec![-127; 16];
+    let passed_over = (PASSED_OVER, features.clone());
+    features[0] = 127;
+    Draft {
+        features: 16,
+        kernel: OVERLAP,
+        units: 1_048_576,
+        ceiling: 65_536,
+        tolerance: 1_000_000_000_000,
+        budget: 1_000_000,
+        second_ceiling: 65_536,
+        items: vec![(LOOKED_UP, features), passed_over],
+    }
+}
+
+/// The file of P1, byte for byte, and one place that is left as it was.
+const B1: &str = "length 72, output \
+    2 0 1 0 1 0 0 0 10 0 0 0 100 0 0 0 0 0 0 0 0 0 0 0 50 0 0 0 0 0 0 0 \
+    2 0 1 0 1 0 0 0 0 0 0 0 0 0 0 0 0 0 0 0 \
+    0 0 2 0 255 0 0 0 0 0 0 0 0 0 0 0 0 0 0 0 \
+    9";
+
+const B2: &str = "length 72, output \
+    2 0 1 0 16 2 0 0 0 0 16 0 0 0 1 0 0 16 165 212 232 0 0 0 64 66 15 0 0 0 1 0 \
+    2 0 1 0 127 129 129 129 129 129 129 129 129 129 129 129 129 129 129 129 \
+    0 0 2 0 129 129 129 129 129 129 129 129 129 129 129 129 129 129 129 129 \
+    9";
+
+/// 71 places, one fewer than there are bytes in the file.
+const B7: &str = "refused 10 0, output \
+    9 9 9 9 9 9 9 9 9 9 9 9 9 9 9 9 9 9 9 9 9 9 9 9 9 9 9 9 9 9 9 9 \
+    9 9 9 9 9 9 9 9 9 9 9 9 9 9 9 9 9 9 9 9 \
+    9 9 9 9 9 9 9 9 9 9 9 9 9 9 9 9 9 9 9";
+
+/// Request (b). B3 to B7 have a refusal each, beside faults that are tested later:
+/// in all of them the output is too short. In B3 S is 0, and there are 257 items;
+/// in B4 one of as many has a wrong label. In B5 all labels that are right are the
+/// same, and a label is −1, a feature −128, or a feature past d not 0.
+#[rustfmt::skip]
+fn files_written() -> Vec<Case> {
+    let of = |first, second| Draft { items: vec![first, second], ..p1() };
+    let plus = |feature| (LOOKED_UP, vec![feature]);
+    let b3 = &Draft { units: 0, ..p1() };
+    let b4 = &of((3, vec![1]), (PASSED_OVER, vec![-1]));
+    let wrong_label = &of((255, vec![1]), plus(1));
+    let wrong_feature = &of(plus(1), plus(-128));
+    let past_used = &of(plus(1), (LOOKED_UP, vec![1, 1]));
+    vec![
+        write("B1", &p1(), 2, 73, B1),
+        write("B2", &b2(), 2, 73, B2),
+        write("B3", b3, 257, 3, "refused 2 0, output 9 9 9"),
+        write("B4", b4, 257, 3, "refused 1 0, output 9 9 9"),
+        write("B5", wrong_label, 2, 3, "refused 4 0, output 9 9 9"),
+        write("B5", wrong_feature, 2, 3, "refused 4 0, output 9 9 9"),
+        write("B5", past_used, 2, 3, "refused 4 0, output 9 9 9"),
+        write("B6", &of(plus(1), plus(-1)), 2, 3, "refused 5 0, output 9 9 9"),
+        write("B6", &p1(), 0, 3, "refused 5 0, output 9 9 9"),
+        write("B7", &p1(), 2, 71, B7),
     ]
 }
 

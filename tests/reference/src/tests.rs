@@ -6,15 +6,16 @@ mod chains;
 mod overlap;
 mod samples;
 mod settled;
+mod write;
 
 use crate::cases::{Drawn, GROUPS};
 use crate::examples::*;
 use crate::file::{read, MOST_RECORDS};
 use crate::generate::draft::{any_feature, Draft, LOOKED_UP, PASSED_OVER};
 use crate::generate::mirror::Mirror;
-use crate::generate::{any_file, causes, multipliers, words, Random};
+use crate::generate::{any_file, causes, multipliers, words, writing, Random};
 use crate::kernel::Kernel;
-use crate::settled::{i1, p1, p3, p8, p9};
+use crate::settled::{f2, i1, p1, p3, p8, p9};
 use crate::training::{Ending, Trained};
 use crate::{certify, classify, contents, listing, train, Class, Contents, Refusal};
 
@@ -26,7 +27,8 @@ fn trained(draft: &Draft) -> (Trained, Vec<u32>, Vec<i64>) {
     (result, multipliers, gradient)
 }
 
-/// A random file, with a list and a word as a caller hands them in.
+/// A random file, with a list, a word and what is to be written as a caller hands them
+/// in.
 fn drawn(number: u64) -> Drawn {
     let random = &mut Random::numbered(1, number);
     let mut drawn = Drawn::of(any_file(random));
@@ -34,6 +36,7 @@ fn drawn(number: u64) -> Drawn {
     let word = words::handed_in(drawn.problem(), &multipliers, random);
     drawn.certify(multipliers.clone());
     drawn.classify(multipliers, word);
+    drawn.write(writing::handed_in(random));
     drawn
 }
 
@@ -148,8 +151,7 @@ fn a_listing_adds_up_and_a_refusal_is_one_line() {
 fn reading_gives_the_order_as_far_as_the_table_goes() {
     let both_items = Contents {
         items: 2,
-        features: 1,
-        kernel: Kernel::Linear,
+        parameters: p1().numbers(),
     };
     for (places, left) in [
         (0, [9, 9, 9]),
@@ -162,9 +164,10 @@ fn reading_gives_the_order_as_far_as_the_table_goes() {
         assert_eq!(found, Ok(both_items));
         assert_eq!(order, left);
     }
-    let kernel = |draft: Draft| contents(&draft.plain(), &mut []).map(|read| read.kernel);
-    assert_eq!(kernel(p8()), Ok(Kernel::Square));
-    assert_eq!(kernel(i1()), Ok(Kernel::Overlap));
+    for draft in [p8(), i1(), f2(), long_run()] {
+        let read = contents(&draft.plain(), &mut []).expect("accepted");
+        assert_eq!(read.parameters, draft.numbers());
+    }
 }
 
 #[test]

@@ -1,23 +1,40 @@
 //! That `include/lookahead.h` and `include/lookahead.rs` declare the library as
 //! it is: the exported functions with the names, the order and the types of their
-//! parameters, the struct that they answer, and the constants. What both files
-//! have to say is worked out from the source, and looked up in them as text. A
-//! form that there is no rule for is an error.
+//! parameters, the structs that they take and answer, and the constants. What
+//! both files have to say is worked out from the source, and looked up in them as
+//! text; besides it they may have their frame alone. A form that there is no rule
+//! for is an error.
 
 use std::collections::{BTreeMap, BTreeSet};
 use std::fs;
 use std::path::PathBuf;
 
+#[path = "../../../include/lookahead.rs"]
+mod declared;
+
 const EXPORTS: &str = "crates/lookahead_c/src";
 const CERTIFY: &str = "crates/lookahead_c/src/certify.rt";
+const PARAMETER_NUMBERS: &str = "crates/lookahead_c/src/parameters.rt";
+const READ: &str = "crates/lookahead_c/src/read.rt";
+const WRITE: &str = "crates/lookahead_c/src/write.rt";
 const NUMBERING: &str = "crates/lookahead_c/src/numbering.rt";
 const REFUSALS: &str = "crates/training_file/src/refusal.rt";
 const PARAMETERS: &str = "crates/training_file/src/parameters.rt";
+const ITEM: &str = "crates/training_file/src/item.rt";
+const LAYOUT: &str = "crates/training_file/src/layout.rt";
+const ROW: &str = "crates/writing/src/row.rt";
 const HEADER: &str = "include/lookahead.h";
 const DECLARATIONS: &str = "include/lookahead.rs";
 
-/// The one line of the header that defines no number.
-const GUARD: &str = "#define LOOKAHEAD_H";
+/// What stands in both files around the declarations.
+const FRAME: Declared<&str> = Declared {
+    c: "#ifndef LOOKAHEAD_H #define LOOKAHEAD_H #include <stddef.h> #include <stdint.h>
+        #ifdef __cplusplus extern \"C\" { #endif #ifdef __cplusplus } #endif #endif",
+    rust: "#![allow(dead_code)] extern \"C\" { }",
+};
+
+/// Ahead of every struct for Rust.
+const DERIVED: &str = "#[derive(Clone, Copy, Debug, PartialEq, Eq)]";
 
 /// The numbers of Rattle, which have the same names in Rust, and those of C.
 const NUMBERS: [(&str, &str); 9] = [
@@ -32,16 +49,32 @@ const NUMBERS: [(&str, &str); 9] = [
     ("usize", "size_t"),
 ];
 
+/// The types of Rattle that are a struct for C and for Rust.
+const STRUCTS: [(&str, &str, &str); 4] = [
+    ("Refusal", "lookahead_answer", "LookaheadAnswer"),
+    (
+        "ParameterNumbers",
+        "lookahead_parameters",
+        "LookaheadParameters",
+    ),
+    ("ReadAnswer", "lookahead_reading", "LookaheadReading"),
+    (A_ROW, "lookahead_item", "LookaheadItem"),
+];
+
+/// An array in Rattle, which C can't take by value.
+const A_ROW: &str = "Row";
+
 /// The one parameter with another name in the header: `class` is a keyword of C++.
 const PARAMETERS_IN_C: [(&str, &str); 1] = [("class", "class_answer")];
 
-/// The one field with another name in both files.
-const FIELDS: [(&str, &str); 1] = [("at", "record")];
+/// The fields with other names in both files.
+const FIELDS: [(&str, &str); 2] = [("at", "record"), ("refusal", "answer")];
 
 /// The constants and variants with other names in both files. All names are in
 /// capitals there, after `LOOKAHEAD_`, and those of refusals after `REFUSED_` too.
-const CONSTANTS: [(&str, &str); 7] = [
+const CONSTANTS: [(&str, &str); 8] = [
     ("MAX_RECORDS", "MOST_ITEMS"),
+    ("FEATURE_COUNT", "FEATURES"),
     ("FILE_LENGTH", "LENGTH"),
     ("LIST_LENGTH", "COUNT"),
     ("MULTIPLIER", "CEILING"),
@@ -54,9 +87,10 @@ const CONSTANTS: [(&str, &str); 7] = [
 type Texts = BTreeMap<String, String>;
 
 /// What the header has to declare, and what the file for Rust has to.
-struct Declared {
-    c: String,
-    rust: String,
+#[derive(PartialEq, Eq, PartialOrd, Ord)]
+struct Declared<Text = String> {
+    c: Text,
+    rust: Text,
 }
 
 fn texts() -> Texts {
@@ -66,7 +100,15 @@ fn texts() -> Texts {
         let name = entry.expect("a name").file_name();
         format!("{EXPORTS}/{}", name.to_string_lossy())
     });
-    let others = [REFUSALS, PARAMETERS, HEADER, DECLARATIONS];
+    let others = [
+        REFUSALS,
+        PARAMETERS,
+        ITEM,
+        LAYOUT,
+        ROW,
+        HEADER,
+        DECLARATIONS,
+    ];
     exports
         .chain(others.map(String::from))
         .map(|path| {
@@ -107,28 +149,33 @@ fn renamed<'a>(name: &'a str, list: &[(&str, &'a str)]) -> &'a str {
     found.map_or(name, |(_, to)| to)
 }
 
-fn number_in_c(number: &str) -> Result<&'static str, String> {
-    let found = NUMBERS.iter().find(|(rust, _)| *rust == number);
-    let unknown = || format!("no rule for the type `{number}`");
-    found.map(|(_, c)| *c).ok_or_else(unknown)
+/// A number or a struct, by its name in the source.
+fn named(name: &str) -> Result<Declared<&str>, String> {
+    let number = NUMBERS.iter().find(|(rust, _)| *rust == name);
+    let number = number.map(|&(rust, c)| Declared { c, rust });
+    let of_name = STRUCTS.iter().find(|(rattle, ..)| *rattle == name);
+    let of_name = of_name.map(|&(_, c, rust)| Declared { c, rust });
+    let unknown = || format!("no rule for the type `{name}`");
+    number.or(of_name).ok_or_else(unknown)
 }
 
-/// A parameter: a pointer, and for a slice its length besides.
+/// A parameter: a value, or a pointer, and for a slice its length besides.
 fn parameter(source: &str) -> Result<Vec<Declared>, String> {
     let unknown = || format!("no rule for the parameter `{source}`");
     let (name, shape) = source.split_once(" : ").ok_or_else(unknown)?;
     let shape: Vec<&str> = shape.split(' ').collect();
-    let (number, is_slice, c, rust) = match shape[..] {
-        ["&", "[", number, "]"] => (number, true, "const ", "*const"),
-        ["&", "mut", "[", number, "]"] => (number, true, "", "*mut"),
-        ["&", "mut", number] => (number, false, "", "*mut"),
+    let (of_type, is_slice, c, star, rust) = match shape[..] {
+        ["&", "[", of_type, "]"] => (of_type, true, "const ", "*", "*const "),
+        ["&", "mut", "[", of_type, "]"] => (of_type, true, "", "*", "*mut "),
+        ["&", "mut", of_type] => (of_type, false, "", "*", "*mut "),
+        [of_type] if of_type != A_ROW => (of_type, false, "", "", ""),
         _ => return Err(unknown()),
     };
-    let c_number = number_in_c(number)?;
+    let of_type = named(of_type)?;
     let c_name = renamed(name, &PARAMETERS_IN_C);
     let mut declared = vec![Declared {
-        c: format!("{c}{c_number} *{c_name}"),
-        rust: format!("{name}: {rust} {number}"),
+        c: format!("{c}{} {star}{c_name}", of_type.c),
+        rust: format!("{name}: {rust}{}", of_type.rust),
     }];
     if is_slice {
         declared.push(Declared {
@@ -141,14 +188,17 @@ fn parameter(source: &str) -> Result<Vec<Declared>, String> {
 
 /// A function, from the source after `#[no_mangle]`.
 fn function(source: &str) -> Result<Declared, String> {
-    let (name, parameters) = source
+    let (signature, rest) = source
         .strip_prefix("pub extern \" C \" fn ")
-        .and_then(|rest| rest.split_once(" ) - > Refusal "))
-        .and_then(|(signature, _)| signature.split_once(" ( "))
+        .and_then(|rest| rest.split_once(" ) - > "))
         .ok_or_else(|| {
             let start: String = source.chars().take(80).collect();
             format!("no rule for the function that begins `{start}`")
         })?;
+    let unknown = || format!("no rule for the function `{signature}`");
+    let (name, parameters) = signature.split_once(" ( ").ok_or_else(unknown)?;
+    let (answer, _) = rest.split_once(' ').ok_or_else(unknown)?;
+    let answer = named(answer)?;
     let mut c = Vec::new();
     let mut rust = Vec::new();
     for source in parameters.split(" , ") {
@@ -157,15 +207,15 @@ fn function(source: &str) -> Result<Declared, String> {
             rust.push(declared.rust);
         }
     }
+    let (c, rust) = (c.join(", "), rust.join(", "));
     Ok(Declared {
-        c: format!("lookahead_answer {name}({});", c.join(", ")),
-        rust: format!("pub fn {name}({}) -> LookaheadAnswer;", rust.join(", ")),
+        c: format!("{} {name}({c});", answer.c),
+        rust: format!("pub fn {name}({rust}) -> {};", answer.rust),
     })
 }
 
 /// The functions that a file exports.
 fn functions(source: &str) -> Result<Vec<Declared>, String> {
-    let source = plain(source);
     let parts = source.split(" # [ no_mangle ] ").skip(1);
     let functions: Vec<Declared> = parts.map(function).collect::<Result<_, _>>()?;
     if source.matches(" extern ").count() != functions.len() {
@@ -174,28 +224,71 @@ fn functions(source: &str) -> Result<Vec<Declared>, String> {
     Ok(functions)
 }
 
-/// The struct that every function answers.
-fn answer(source: &str) -> Result<Declared, String> {
-    let source = plain(source);
-    let (fields, _) = source
-        .split_once(" # [ repr ( C ) ] pub struct Refusal { ")
-        .and_then(|(_, rest)| rest.split_once(" } "))
-        .ok_or("no struct `Refusal` with `#[repr(C)]`")?;
+/// A struct, from the source after `#[repr(C)]`.
+fn structure(source: &str) -> Result<Declared, String> {
+    let (name, fields) = source
+        .strip_prefix("pub struct ")
+        .and_then(|rest| rest.split_once(" } "))
+        .and_then(|(rest, _)| rest.split_once(" { "))
+        .ok_or("no rule for `#[repr(C)]` without a public struct")?;
+    let name = named(name)?;
     let mut c = String::new();
     let mut rust = Vec::new();
     for field in fields.split(" , ") {
-        let (name, number) = field
+        let (name, of_type) = field
             .strip_prefix("pub ")
             .and_then(|field| field.split_once(" : "))
             .ok_or_else(|| format!("no rule for the field `{field}`"))?;
-        let name = renamed(name, &FIELDS);
-        c += &format!("{} {name}; ", number_in_c(number)?);
-        rust.push(format!("pub {name}: {number}"));
+        let (name, of_type) = (renamed(name, &FIELDS), named(of_type)?);
+        c += &format!("{} {name}; ", of_type.c);
+        rust.push(format!("pub {name}: {}", of_type.rust));
     }
     let rust = rust.join(", ");
     Ok(Declared {
-        c: format!("typedef struct {{ {c}}} lookahead_answer;"),
-        rust: format!("#[repr(C)] pub struct LookaheadAnswer {{ {rust} }}"),
+        c: format!("typedef struct {{ {c}}} {};", name.c),
+        rust: format!("#[repr(C)] pub struct {} {{ {rust} }}", name.rust),
+    })
+}
+
+/// The structs of a file, which are all for C.
+fn structures(source: &str) -> Result<Vec<Declared>, String> {
+    let parts = source.split(" # [ repr ( C ) ] ").skip(1);
+    let structures: Vec<Declared> = parts.map(structure).collect::<Result<_, _>>()?;
+    if source.matches(" struct ").count() != structures.len() {
+        return Err("no rule for a struct without `#[repr(C)]`".to_string());
+    }
+    Ok(structures)
+}
+
+/// The struct that stands for a row, its features and then its label, with the
+/// assertions that nothing stands between them.
+fn item(texts: &Texts) -> Result<Declared, String> {
+    let features = number_of(texts, ITEM, "FEATURE_COUNT")?;
+    let bytes = features + 1;
+    let row =
+        "pub const ROW_LENGTH: usize = Item::FEATURE_COUNT + 1; pub type Row = [i8; ROW_LENGTH];";
+    if !plain(&texts[ROW]).contains(&plain(row)) {
+        return Err(format!("{ROW} has no row of {bytes} signed bytes"));
+    }
+    let asserted = |word: &str| {
+        format!(
+            "{word}(sizeof(lookahead_item) == {bytes}, \"an item has no gap\");
+            {word}(offsetof(lookahead_item, label) == {features}, \"its label is last\");"
+        )
+    };
+    let (in_cpp, in_c) = (asserted("static_assert"), asserted("_Static_assert"));
+    Ok(Declared {
+        c: format!(
+            "typedef struct {{ int8_t features[LOOKAHEAD_FEATURES]; int8_t label; }} lookahead_item;
+            #ifdef __cplusplus {in_cpp} #elif __STDC_VERSION__ >= 201112L {in_c} #endif"
+        ),
+        rust: format!(
+            "#[repr(C)] pub struct LookaheadItem {{
+                pub features: [i8; LOOKAHEAD_FEATURES], pub label: i8
+            }}
+            const _: () = assert!(std::mem::size_of::<LookaheadItem>() == {bytes});
+            const _: () = assert!(std::mem::align_of::<LookaheadItem>() == 1);"
+        ),
     })
 }
 
@@ -222,7 +315,27 @@ fn constants_of(source: &str) -> Vec<[String; 3]> {
         .collect()
 }
 
-/// The most items, the refusals, the kernels, the endings and the classes.
+/// The number of a public constant of a file.
+fn number_of(texts: &Texts, path: &str, wanted: &str) -> Result<usize, String> {
+    let constants = constants_of(&texts[path]);
+    let found = constants.iter().find(|[name, ..]| name == wanted);
+    let number = found.and_then(|[_, _, number]| number.parse().ok());
+    number.ok_or_else(|| format!("{path} has no number `{wanted}`"))
+}
+
+/// The length of a file of the most items.
+fn most_file(texts: &Texts) -> Result<Declared, String> {
+    let header = number_of(texts, LAYOUT, "HEADER_LENGTH")?;
+    let record = number_of(texts, LAYOUT, "RECORD_LENGTH")?;
+    let length = format!("{header} + {record} * LOOKAHEAD_MOST_ITEMS");
+    Ok(Declared {
+        c: format!("#define LOOKAHEAD_MOST_FILE ({length})"),
+        rust: format!("pub const LOOKAHEAD_MOST_FILE: usize = {length};"),
+    })
+}
+
+/// The most items, how many features there are, the refusals, the kernels, the
+/// labels, the endings and the classes. A label's number is that of its class.
 fn constants(texts: &Texts) -> Vec<Declared> {
     let mut constants = Vec::new();
     for [name, _, number] in constants_of(&texts[REFUSALS]) {
@@ -230,8 +343,11 @@ fn constants(texts: &Texts) -> Vec<Declared> {
             constants.push(constant("REFUSED_", &name, "u8", &number));
         }
     }
-    for [name, of_type, number] in constants_of(&texts[PARAMETERS]) {
-        if of_type == "u8" || name == "MAX_RECORDS" {
+    for [name, of_type, number] in [PARAMETERS, ITEM]
+        .into_iter()
+        .flat_map(|path| constants_of(&texts[path]))
+    {
+        if of_type == "u8" || name == "MAX_RECORDS" || name == "FEATURE_COUNT" {
             constants.push(constant("", &name, &of_type, &number));
         }
     }
@@ -245,49 +361,53 @@ fn constants(texts: &Texts) -> Vec<Declared> {
     constants
 }
 
-/// That both files declare what the source has, and nothing else.
-fn check(texts: &Texts) -> Result<(), String> {
-    let mut exported = Vec::new();
-    for (path, source) in texts.iter().filter(|(path, _)| path.starts_with(EXPORTS)) {
-        exported.extend(functions(source).map_err(|error| format!("{path}: {error}"))?);
-    }
-    let header = plain(&texts[HEADER]);
-    let declarations = plain(&texts[DECLARATIONS]);
-    for wanted in exported.iter().chain([&answer(&texts[REFUSALS])?]) {
-        if !header.contains(&plain(&wanted.c)) {
-            return Err(format!("{HEADER} has no `{}`", wanted.c));
+/// All that both files have to declare.
+fn wanted(texts: &Texts) -> Result<BTreeSet<Declared>, String> {
+    let mut wanted = BTreeSet::from([item(texts)?, most_file(texts)?]);
+    wanted.extend(constants(texts));
+    for (path, source) in texts {
+        let source = plain(source);
+        let error = |error| format!("{path}: {error}");
+        if path.starts_with(EXPORTS) {
+            wanted.extend(functions(&source).map_err(error)?);
         }
-        if !declarations.contains(&plain(&wanted.rust)) {
-            return Err(format!("{DECLARATIONS} has no `{}`", wanted.rust));
+        if path.starts_with(EXPORTS) || path == REFUSALS {
+            wanted.extend(structures(&source).map_err(error)?);
         }
     }
-    let in_header = header.matches(" ( ").count();
-    let in_declarations = declarations.matches(" fn ").count();
-    if [in_header, in_declarations] != [exported.len(); 2] {
+    Ok(wanted)
+}
+
+/// That a file has each declaration once, and nothing else beside its frame.
+fn has<'a>(
+    path: &str,
+    text: &str,
+    wanted: impl Iterator<Item = &'a String>,
+    frame: &str,
+) -> Result<(), String> {
+    let mut rest = plain(text);
+    for declaration in wanted {
+        let declaration = plain(declaration);
+        if !rest.contains(&declaration) {
+            return Err(format!("{path} has no `{declaration}`"));
+        }
+        rest = rest.replacen(&declaration, " ", 1);
+    }
+    if rest != plain(frame) {
         return Err(format!(
-            "{} functions are exported, {in_header} in {HEADER}, {in_declarations} in {DECLARATIONS}",
-            exported.len()
+            "{path} has, beside what the source has, `{rest}`, and not `{frame}`"
         ));
     }
-
-    let constants = constants(texts);
-    let in_c: BTreeSet<&str> = constants.iter().map(|wanted| &wanted.c[..]).collect();
-    let in_rust: BTreeSet<&str> = constants.iter().map(|wanted| &wanted.rust[..]).collect();
-    for (path, start, wanted) in [
-        (HEADER, "#define LOOKAHEAD_", in_c),
-        (DECLARATIONS, "pub const ", in_rust),
-    ] {
-        let lines = texts[path].lines();
-        let constants = lines.filter(|line| line.starts_with(start) && *line != GUARD);
-        let constants: BTreeSet<&str> = constants.collect();
-        if let Some(line) = wanted.difference(&constants).next() {
-            return Err(format!("{path} has no `{line}`"));
-        }
-        if let Some(line) = constants.difference(&wanted).next() {
-            return Err(format!("{path} has `{line}`, and the source does not"));
-        }
-    }
     Ok(())
+}
+
+/// That both files declare what the source has, and nothing else.
+fn check(texts: &Texts) -> Result<(), String> {
+    let wanted = wanted(texts)?;
+    let declarations = texts[DECLARATIONS].replace(DERIVED, "");
+    let (c, rust) = (wanted.iter().map(|w| &w.c), wanted.iter().map(|w| &w.rust));
+    has(HEADER, &texts[HEADER], c, FRAME.c)?;
+    has(DECLARATIONS, &declarations, rust, FRAME.rust)
 }
 
 #[test]
@@ -297,14 +417,27 @@ fn the_library_is_declared_as_it_is() {
     }
 }
 
+/// An item in Rust is a row: sixteen features and then the label.
+#[test]
+fn the_label_of_an_item_is_its_last_byte() {
+    let item = declared::LookaheadItem {
+        features: [0; declared::LOOKAHEAD_FEATURES],
+        label: 0,
+    };
+    let start = &item as *const _ as usize;
+    assert_eq!(&item.features as *const _ as usize, start);
+    assert_eq!(&item.label as *const _ as usize, start + 16);
+}
+
 /// Wrong texts: the file, what it has, and what it has instead.
 #[rustfmt::skip]
-const WRONG: [(&str, &str, &str); 24] = [
+const WRONG: [(&str, &str, &str); 52] = [
     // Two parameters exchanged.
     (CERTIFY, "lower: &mut i64,\n    upper: &mut i64", "upper: &mut i64,\n    lower: &mut i64"),
     (HEADER, "int64_t *lower, int64_t *upper", "int64_t *upper, int64_t *lower"),
     (DECLARATIONS, "lower: *mut i64,\n        upper: *mut i64", "upper: *mut i64,\n        lower: *mut i64"),
     (CERTIFY, "file: &[u8],\n    multipliers: &[u32]", "multipliers: &[u32],\n    file: &[u8]"),
+    (WRITE, "output: &mut [u8],\n    length: &mut usize", "length: &mut usize,\n    output: &mut [u8]"),
     // Another type.
     (CERTIFY, "lower: &mut i64", "lower: &mut u64"),
     (CERTIFY, "multipliers: &[u32]", "multipliers: &mut [u32]"),
@@ -312,24 +445,54 @@ const WRONG: [(&str, &str, &str); 24] = [
     (HEADER, "uint16_t *order", "uint8_t *order"),
     (DECLARATIONS, "steps: *mut u32", "steps: *mut u64"),
     (DECLARATIONS, "word: *const i8", "word: *mut i8"),
-    // The fields of the struct exchanged, or of another type.
+    (WRITE, "items: &[Row]", "items: &mut [Row]"),
+    (WRITE, "items: &[Row]", "items: &[i8]"),
+    (HEADER, "const lookahead_item *items", "const int8_t *items"),
+    (DECLARATIONS, "items: *const LookaheadItem", "items: *const i8"),
+    // A struct by value, and one that is lent.
+    (WRITE, "parameters: ParameterNumbers", "parameters: &mut ParameterNumbers"),
+    (HEADER, "lookahead_parameters parameters,", "lookahead_parameters *parameters,"),
+    (DECLARATIONS, "parameters: LookaheadParameters,\n        items", "parameters: *mut LookaheadParameters,\n        items"),
+    // Another answer.
+    (READ, "-> ReadAnswer", "-> Refusal"),
+    (HEADER, "lookahead_reading lookahead_read(", "lookahead_answer lookahead_read("),
+    (DECLARATIONS, "-> LookaheadReading", "-> LookaheadAnswer"),
+    (CERTIFY, "-> Refusal", "-> u8"),
+    // The fields of a struct exchanged, or of another type or name.
     (HEADER, "uint8_t number;\n    uint16_t record;", "uint16_t record;\n    uint8_t number;"),
     (DECLARATIONS, "pub number: u8,\n    pub record: u16,", "pub record: u16,\n    pub number: u8,"),
     (REFUSALS, "pub number: u8", "pub number: u16"),
     (REFUSALS, "#[repr(C)]", ""),
     (DECLARATIONS, "#[repr(C)]", ""),
+    (PARAMETER_NUMBERS, "pub grid: u32", "pub units: u32"),
+    (PARAMETER_NUMBERS, "pub tolerance: u64", "pub tolerance: u32"),
+    (PARAMETER_NUMBERS, "#[repr(C)]", ""),
+    (HEADER, "uint32_t ceiling;\n    uint32_t second_ceiling;", "uint32_t second_ceiling;\n    uint32_t ceiling;"),
+    (READ, "pub items: usize", "pub items: u16"),
+    (DECLARATIONS, "pub items: usize,\n    pub parameters: LookaheadParameters,", "pub parameters: LookaheadParameters,\n    pub items: usize,"),
+    // An item and a row.
+    (ROW, "FEATURE_COUNT + 1;", "FEATURE_COUNT + 2;"),
+    (ROW, "[i8; ROW_LENGTH]", "[u8; ROW_LENGTH]"),
+    (HEADER, "int8_t features[LOOKAHEAD_FEATURES];\n    int8_t label;", "int8_t label;\n    int8_t features[LOOKAHEAD_FEATURES];"),
+    (DECLARATIONS, "pub label: i8", "pub label: u8"),
     // A function that is declared nowhere, in one file alone, or not exported.
     (CERTIFY, "#[no_mangle]", "#[no_mangle] pub extern \"C\" fn other(file: &[u8]) -> Refusal { }\n#[no_mangle]"),
-    (HEADER, "lookahead_answer lookahead_read(", "lookahead_answer lookahead_other("),
+    (HEADER, "lookahead_reading lookahead_read(", "lookahead_reading lookahead_other("),
     (DECLARATIONS, "pub fn lookahead_read(", "pub fn lookahead_other("),
-    (HEADER, "#ifdef __cplusplus\n}", "void lookahead_other(void);\n#ifdef __cplusplus\n}"),
+    (HEADER, "#ifdef __cplusplus\n}", "void other(void);\n#ifdef __cplusplus\n}"),
     (CERTIFY, "#[no_mangle]", ""),
     // Forms that there is no rule for.
     (CERTIFY, "multipliers: &[u32]", "multipliers: &[[i8; 17]]"),
-    (CERTIFY, "-> Refusal", "-> u8"),
+    (WRITE, "items: &[Row]", "items: Row"),
+    (READ, "#[repr(C)]", "pub struct Other { pub items: usize }\n#[repr(C)]"),
     // Constants.
     (HEADER, "LOOKAHEAD_STUCK 2", "LOOKAHEAD_STUCK 3"),
+    (HEADER, "LOOKAHEAD_STUCK 2", "LOOKAHEAD_STUCK 2\n#define LOOKAHEAD_OTHER 2"),
     (REFUSALS, "NEXT_MET: u8 = 16", "NEXT_MET: u8 = 17"),
+    (HEADER, "LOOKAHEAD_REFUSED_OUTPUT 10", "LOOKAHEAD_REFUSED_OUTPUT 17"),
+    (ITEM, "PASSED_OVER: u8 = 2", "PASSED_OVER: u8 = 3"),
+    (DECLARATIONS, "LOOKAHEAD_FEATURES: usize = 16", "LOOKAHEAD_FEATURES: usize = 17"),
+    (LAYOUT, "RECORD_LENGTH: usize = 20", "RECORD_LENGTH: usize = 24"),
 ];
 
 #[test]

@@ -12,15 +12,21 @@ use Rattle.integers.specs.Zero.{isZero}
 use Rattle.integers.proofs.Laws.Truth.{chose-either}
 use Rattle.training_file.specs.declared.parameters.Parameters.{Parameters}
 use Rattle.training_file.specs.declared.item.Item.{Item}
+use Rattle.training_file.specs.Parameters.{kernelAllowed}
 use Rattle.training_file.specs.Record.{every}
-use Rattle.training_file.specs.Refusal.{OneOf, RecordCarried, certifyingRefuses, classifyingRefuses, noRefusal, readingRefuses, refusal, trainingRefuses}
+use Rattle.training_file.specs.Refusal.{OneOf, RecordCarried, certifyingRefuses, classifyingRefuses, noRefusal, readingRefuses, refusal, trainingRefuses, writingRefuses}
 use Rattle.training_file.proofs.Laws.Refusal.{none-carried, one-of-alone, one-of-more}
 use Rattle.reading.specs.declared.reader.FileAnswer.{FileAnswer}
 use Rattle.reading.specs.declared.reader.FileAnswer.the-variants as read
 use Rattle.reading.specs.Reading.{Reading, refused, accepted, reading}
-use Rattle.reading.specs.Calls.{fileAnswer, fileRefusal}
+use Rattle.reading.specs.Calls.{fileAnswer}
 use Rattle.reading.proofs.Laws.Calls.{file-either}
 use Rattle.reading.proofs.Laws.Reading.Fault.{refused-one-of}
+use Rattle.written_file.specs.Output.{Refuses, Writing}
+use Rattle.written_file.specs.Output as written
+use Rattle.written_file.proofs.Laws.Output.{unless-refuses}
+use Rattle.writing.specs.Writing.{writing}
+use Rattle.writing.proofs.Laws.Writing.{writing-refuses}
 use Rattle.dual_problem.specs.Problem.{Problem, problem, at}
 use Rattle.thresholds.specs.declared.extremes.Thresholds.{Thresholds}
 use Rattle.certifying.specs.declared.certify.Certified.{Certified}
@@ -35,10 +41,13 @@ use Rattle.training.specs.Train.{TrainingLeft, trainFile, trainingRefusal}
 use Rattle.classifying.specs.declared.classify.Classified.{Classified}
 use Rattle.classifying.specs.declared.classify.Classified.the-variants as classified
 use Rattle.classifying.specs.Classify.{classifiedRefusal, classifying, classifyItems, classifyJudged, wordAllowed}
-use Rattle.lookahead_c.specs.Reading.{ReadNumbers, readSeen}
+use Rattle.lookahead_c.specs.declared.parameters.ParameterNumbers.{ParameterNumbers}
+use Rattle.lookahead_c.specs.Parameters.{parametersIn}
+use Rattle.lookahead_c.specs.Reading.{readAnswer}
 use Rattle.lookahead_c.specs.Training.{TrainNumbers, trainSeen}
 use Rattle.lookahead_c.specs.Certifying.{certifySeen}
 use Rattle.lookahead_c.specs.Classifying.{classifySeen}
+use Rattle.lookahead_c.specs.Writing.{writeNumbers, writeSeen}
 use Rattle.lookahead_c.specs.Refusals.{CertifyRefusals, ClassifyRefusals, ReadRefusals, TrainRefusals}
 
 -- ---- reading
@@ -103,13 +112,19 @@ classify-refusals file a word =
     file-either _ _ file (λ r answer. ClassifyRefusals answer) (λ why e. one-of-more readingRefuses classifyingRefuses why refl (refused-one-of file why e))
     (λ p order items e. classify-items p items a word)
 
+-- ---- writing
+pub write-refusals : (q : ParameterNumbers) (rows : List (List ℤ)) (room : ℕ) → Refuses writingRefuses (writeNumbers q rows room)
+write-refusals q rows room =
+    unless-refuses writingRefuses 2 (kernelAllowed (q .kernel)) (writing (parametersIn q) rows room) refl (λ e. omega arith) (λ e. omega arith)
+    (writing-refuses (parametersIn q) rows room)
+
 -- ---- the record that a caller sees
 none-refused : RecordCarried noRefusal
 none-refused = none-carried 0 (λ q. omega arith) (λ q. omega arith)
 
-pub read-record : (file table : List ℕ) (before : ReadNumbers) → RecordCarried (readSeen (reading file) table before .refusal)
-read-record file table before = by (fileAnswer (reading file)) (read-refusals file) where
-  by : (x : FileAnswer) → ReadRefusals x → RecordCarried (fileRefusal x)
+pub read-record : (file : List ℕ) → RecordCarried (readAnswer (fileAnswer (reading file)) .refusal)
+read-record file = by (fileAnswer (reading file)) (read-refusals file) where
+  by : (x : FileAnswer) → ReadRefusals x → RecordCarried (readAnswer x .refusal)
   by (read.Refused why) n = n .carried
   by (read.Accepted p count) n = none-refused
 
@@ -130,3 +145,10 @@ classify-record file a word before = by (classifying file a word) (classify-refu
   by : (x : Classified) → ClassifyRefusals x → RecordCarried (classifiedRefusal x)
   by (classified.Refused why) n = n .carried
   by (classified.Is class) n = none-refused
+
+pub write-record : (q : ParameterNumbers) (rows : List (List ℤ)) (room length : ℕ) (output : List ℕ)
+    → RecordCarried (writeSeen (writeNumbers q rows room) length output .refusal)
+write-record q rows room length output = by (writeNumbers q rows room) (write-refusals q rows room) where
+  by : (x : Writing) → Refuses writingRefuses x → RecordCarried (writeSeen x length output .refusal)
+  by (written.refused why) n = n .carried
+  by (written.wrote file) n = none-refused

@@ -3,7 +3,9 @@
 use super::Shows::Chain;
 use super::{Drawn, Group};
 use crate::file::read;
-use crate::generate::chains::{chain, next_of, records, with_first, with_next, HIGHEST_NEXT};
+use crate::generate::chains::{
+    chain, is_as_written, next_of, records, with_first, with_next, HIGHEST_NEXT,
+};
 
 /// Whether the records met lead to one of them or over m, whatever the header says.
 pub fn breaks(file: &[u8]) -> bool {
@@ -57,6 +59,16 @@ impl<'a> Walk<'a> {
         let spares = (1..=self.m).filter(|record| !self.met.contains(record));
         let mut kinds = spares.map(|record| kind(record, next_of(self.file, record)));
         self.refused == 0 && kinds.any(|found| found)
+    }
+
+    /// Whether the file is accepted and laid out as those that are written.
+    pub fn is_as_written(&self) -> bool {
+        self.refused == 0 && is_as_written(self.file)
+    }
+
+    /// Whether the file is accepted and has so many spares.
+    pub fn has_spares(&self, asked: impl Fn(usize) -> bool) -> bool {
+        self.refused == 0 && asked(self.m - self.met.len())
     }
 
     /// Whether a record leads through others back to itself.

@@ -1,19 +1,24 @@
 //! What a comparison has to meet, and how often it did: cases that a file can
-//! show, a list of multipliers certified, or a word classified. The reference's
-//! tests, the comparison and the program `stored` all count by these tables.
+//! show, a list of multipliers certified, a word classified, or a call of writing.
+//! The reference's tests, the comparison and the program `stored` all count by
+//! these tables.
 
 mod ceilings;
 mod chains;
 mod counts;
 mod header;
+mod not_written;
 mod overlap;
 mod undecided;
+mod written;
 
 use crate::certify::{judge_count, judge_feasible, thresholds_of};
 use crate::classify::{doubled_score, score};
-use crate::file::{read, Label, Problem};
+use crate::file::{judge_numbers, read, Label, Problem, STORED_FEATURES};
+use crate::generate::writing::Writing;
 use crate::refusal::Refusal;
 use crate::training::{run, Run};
+use crate::write::{judge_both_labels, judge_output, judge_row_count, judge_rows, Row};
 use chains::Walk;
 pub use counts::Counts;
 
@@ -25,13 +30,16 @@ pub struct Group {
     pub cases: &'static [Case],
 }
 
-pub const GROUPS: [Group; 6] = [
+pub const GROUPS: [Group; 9] = [
     header::ENDS,
     header::REFUSED,
     chains::GROUP,
     ceilings::GROUP,
     overlap::GROUP,
     undecided::GROUP,
+    written::WRITTEN,
+    not_written::BEYOND,
+    not_written::REFUSED,
 ];
 
 /// A name, and what shows the case.
@@ -46,6 +54,8 @@ pub enum Shows {
     List(fn(&Accepted, &List) -> bool),
     /// A word classified, of an accepted file.
     Word(fn(&Accepted, &Word) -> bool),
+    /// A call of writing, whatever the file.
+    Write(fn(&WriteCall) -> bool),
 }
 
 impl Shows {
@@ -64,6 +74,10 @@ impl Shows {
                 let words = drawn.words.iter();
                 words.filter(|word| shows(file, word)).count()
             }),
+            Shows::Write(shows) => {
+                let calls = drawn.write_calls.iter();
+                calls.filter(|call| shows(call)).count()
+            }
         }
     }
 }
@@ -74,6 +88,7 @@ pub struct Drawn {
     pub read: Result<Accepted, Refusal>,
     pub lists: Vec<List>,
     pub words: Vec<Word>,
+    pub write_calls: Vec<WriteCall>,
 }
 
 /// What an accepted file holds, and its training.
@@ -99,6 +114,14 @@ pub struct Word {
     pub on_a_line: bool,
 }
 
+/// A call of writing.
+pub struct WriteCall {
+    pub handed: Writing,
+    /// The refusals whose tests fail, each made by itself, in the order of the tests:
+    /// the first is the answer, and without any the file is written.
+    pub at_fault: Vec<u8>,
+}
+
 impl Drawn {
     pub fn of(file: Vec<u8>) -> Drawn {
         let accepted = |problem: Problem| {
@@ -110,6 +133,7 @@ impl Drawn {
             file,
             lists: Vec::new(),
             words: Vec::new(),
+            write_calls: Vec::new(),
         }
     }
 
@@ -149,6 +173,11 @@ impl Drawn {
             on_a_line,
         });
     }
+
+    /// Adds a call of writing.
+    pub fn write(&mut self, handed: Writing) {
+        self.write_calls.push(WriteCall::of(handed));
+    }
 }
 
 /// Whether the line of feasible multipliers decides an item.
@@ -179,5 +208,34 @@ impl Word {
 
     fn is_classified_with(&self, feature: i8) -> bool {
         self.score.is_ok() && self.features.contains(&feature)
+    }
+}
+
+impl WriteCall {
+    /// With a d beyond its range, no feature is past d.
+    pub fn of(handed: Writing) -> WriteCall {
+        let (rows, d) = (&handed.rows, handed.numbers.used);
+        let in_range = (1..=STORED_FEATURES).contains(&d);
+        let used = if in_range { d } else { STORED_FEATURES };
+        let tests = [
+            judge_numbers(&handed.numbers).err(),
+            judge_row_count(rows).err(),
+            judge_rows(rows, used).err(),
+            judge_both_labels(rows).err(),
+            judge_output(rows, handed.places).err(),
+        ];
+        WriteCall {
+            at_fault: tests.into_iter().flatten().collect(),
+            handed,
+        }
+    }
+
+    fn some(&self, asked: impl Fn(&Row) -> bool) -> bool {
+        self.handed.rows.iter().any(asked)
+    }
+
+    fn has_feature(&self, feature: i8) -> bool {
+        let used = self.handed.numbers.used;
+        self.some(|row| row[..used].contains(&feature))
     }
 }

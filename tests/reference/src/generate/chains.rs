@@ -66,6 +66,12 @@ pub fn chain(file: &[u8]) -> Vec<usize> {
     met
 }
 
+/// Whether an accepted file is laid out as those that are written: "records 1 to n,
+/// chained in that order, with no spares".
+pub fn is_as_written(file: &[u8]) -> bool {
+    chain(file).into_iter().eq(1..=records(file))
+}
+
 /// Every chain that so many records can have, broken ones too: the first record
 /// and each next number are all numbers from 0 to one over m.
 pub fn every_chain(records: usize) -> Vec<Vec<u8>> {

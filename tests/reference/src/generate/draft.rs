@@ -1,7 +1,8 @@
 //! A training file before it is laid out in bytes.
 
 use super::random::Random;
-use crate::file::{record_start, HEADER_BYTES, HIGHEST_FEATURE, LOWEST_FEATURE, RECORD_BYTES};
+use crate::file::{record_start, HIGHEST_FEATURE, LOWEST_FEATURE, RECORD_BYTES};
+use crate::write::{header, record, Numbers, Row, LABEL};
 
 /// Label bytes of the file.
 pub const LOOKED_UP: u8 = 1;
@@ -47,38 +48,39 @@ impl Draft {
     /// Items stored in the records that `places` names, in chain order; the
     /// other records keep the bytes of `records`.
     pub fn stored(&self, places: &[usize], records: Vec<u8>) -> Vec<u8> {
-        let mut file = self.header(
-            records.len() / RECORD_BYTES,
-            places.first().copied().unwrap_or(0),
-        );
+        let first = places.first().copied().unwrap_or(0);
+        let stored = records.len() / RECORD_BYTES;
+        let mut file = header(&self.numbers(), stored, first).to_vec();
         file.extend(records);
-        for (position, &place) in places.iter().enumerate() {
+        for (position, (row, &place)) in self.rows().iter().zip(places).enumerate() {
             let next = places.get(position + 1).copied().unwrap_or(0);
             let start = record_start(place);
-            file[start..start + RECORD_BYTES].copy_from_slice(&self.record(position, next));
+            file[start..start + RECORD_BYTES].copy_from_slice(&record(row, next));
         }
         file
     }
 
-    fn header(&self, records: usize, first: usize) -> Vec<u8> {
-        let mut header = Vec::with_capacity(HEADER_BYTES);
-        header.extend((records as u16).to_le_bytes());
-        header.extend((first as u16).to_le_bytes());
-        header.extend([self.features, self.kernel, 0, 0]);
-        header.extend(self.units.to_le_bytes());
-        header.extend(self.ceiling.to_le_bytes());
-        header.extend(self.tolerance.to_le_bytes());
-        header.extend(self.budget.to_le_bytes());
-        header.extend(self.second_ceiling.to_le_bytes());
-        header
+    /// The parameters as a caller hands them over.
+    pub fn numbers(&self) -> Numbers {
+        Numbers {
+            used: self.features.into(),
+            kernel: self.kernel,
+            grid: self.units,
+            ceiling: self.ceiling,
+            second_ceiling: self.second_ceiling,
+            tolerance: self.tolerance,
+            budget: self.budget,
+        }
     }
 
-    fn record(&self, position: usize, next: usize) -> Vec<u8> {
-        let (label, features) = &self.items[position];
-        let mut record = (next as u16).to_le_bytes().to_vec();
-        record.extend([*label, 0]);
-        record.extend(features.iter().map(|&feature| feature as u8));
-        record.resize(RECORD_BYTES, 0);
-        record
+    /// The items as a caller hands them over.
+    pub fn rows(&self) -> Vec<Row> {
+        let row = |(label, features): &(u8, Vec<i8>)| {
+            let mut row = [0; LABEL + 1];
+            row[..features.len()].copy_from_slice(features);
+            row[LABEL] = *label as i8;
+            row
+        };
+        self.items.iter().map(row).collect()
     }
 }

@@ -1,5 +1,5 @@
-//! Training files, multipliers and words drawn from a seed: the same seed gives
-//! the same bytes on every machine.
+//! Training files, multipliers, words and what is to be written, drawn from a seed:
+//! the same seed gives the same bytes on every machine.
 
 pub mod chains;
 pub mod damage;
@@ -9,6 +9,7 @@ pub mod multipliers;
 pub mod random;
 pub mod sound;
 pub mod words;
+pub mod writing;
 
 use crate::{examples, settled};
 pub use chains::{broken, every_chain, with_relinked_spares};

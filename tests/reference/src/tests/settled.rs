@@ -1,8 +1,9 @@
 //! The settled examples: that the reference gives the results written down.
 
 use crate::classify::doubled_score;
-use crate::file::read;
+use crate::file::{numbers, read};
 use crate::settled::{p9, table, Call, Case};
+use crate::write::{rows, write};
 use crate::{certify, classify, run, train, Class, Refusal};
 
 /// The result of a case as the reference works it out.
@@ -11,6 +12,7 @@ fn worked_out(case: &Case) -> String {
         Call::Train => trained(&case.file),
         Call::Certify(a) => shown(certify(&case.file, &a).map(thresholds)),
         Call::Classify(a, word) => shown(classify(&case.file, &a, &[word]).map(class)),
+        Call::Write { items, places } => written(&case.file, items, places),
     }
 }
 
@@ -22,6 +24,18 @@ fn trained(file: &[u8]) -> String {
     });
     let [first, second, third] = multipliers;
     shown(ended) + &format!(", multipliers {first} {second} {third}")
+}
+
+fn written(file: &[u8], items: usize, places: usize) -> String {
+    let both = rows(file, &[1, 2]);
+    let mut rows = vec![both[1]; items];
+    if let Some(first) = rows.first_mut() {
+        *first = both[0];
+    }
+    let mut output = vec![9; places];
+    let length = write(&numbers(file), &rows, &mut output);
+    let places: String = output.iter().map(|byte| format!(" {byte}")).collect();
+    shown(length.map(|length| format!("length {length}"))) + ", output" + &places
 }
 
 fn thresholds((lower, upper): (i64, i64)) -> String {
@@ -48,6 +62,17 @@ fn shown(answer: Result<String, Refusal>) -> String {
 fn every_case_is_as_settled() {
     for case in table() {
         assert_eq!(worked_out(&case), case.result, "{}", case.name);
+    }
+}
+
+/// What B1 has written is the file of P1, and B2's is its own file.
+#[test]
+fn a_file_comes_out_byte_for_byte() {
+    let written = |case: &&Case| case.result.starts_with("length");
+    for case in table().iter().filter(written) {
+        let bytes: String = case.file.iter().map(|byte| format!(" {byte}")).collect();
+        let whole = format!("length {}, output{bytes} 9", case.file.len());
+        assert_eq!(case.result, whole, "{}", case.name);
     }
 }
 

@@ -4,8 +4,11 @@
 #[path = "../../../src/answer.rs"]
 mod answer;
 
-use answer::{refused, LookaheadAnswer, ACCEPTED};
-use reference::kernel::Kernel;
+use answer::{
+    numbers, reading, refused, LookaheadAnswer, LookaheadItem, LookaheadParameters,
+    LookaheadReading, ACCEPTED,
+};
+use reference::write::Row;
 use reference::{Class, Ending};
 use std::slice;
 
@@ -17,25 +20,10 @@ pub unsafe extern "C" fn lookahead_read(
     file_len: usize,
     order: *mut u16,
     order_len: usize,
-    items: *mut usize,
-    used: *mut usize,
-    kernel: *mut u8,
-) -> LookaheadAnswer {
+) -> LookaheadReading {
     let file = slice::from_raw_parts(file, file_len);
     let order = slice::from_raw_parts_mut(order, order_len);
-    match reference::contents(file, order) {
-        Err(refusal) => refused(refusal),
-        Ok(contents) => {
-            *items = contents.items;
-            *used = contents.features;
-            *kernel = match contents.kernel {
-                Kernel::Linear => 0,
-                Kernel::Square => 1,
-                Kernel::Overlap => 2,
-            };
-            ACCEPTED
-        }
-    }
+    reading(reference::contents(file, order))
 }
 
 /// # Safety
@@ -117,6 +105,28 @@ pub unsafe extern "C" fn lookahead_classify(
                 Class::PassedOver => 2,
                 Class::Undecided => 3,
             };
+            ACCEPTED
+        }
+    }
+}
+
+/// # Safety
+/// As for reading.
+#[no_mangle]
+pub unsafe extern "C" fn lookahead_write(
+    parameters: LookaheadParameters,
+    items: *const LookaheadItem,
+    items_len: usize,
+    output: *mut u8,
+    output_len: usize,
+    length: *mut usize,
+) -> LookaheadAnswer {
+    let rows = slice::from_raw_parts(items.cast::<Row>(), items_len);
+    let output = slice::from_raw_parts_mut(output, output_len);
+    match reference::write::write(&numbers(&parameters), rows, output) {
+        Err(refusal) => refused(refusal),
+        Ok(written) => {
+            *length = written;
             ACCEPTED
         }
     }

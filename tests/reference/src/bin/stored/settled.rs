@@ -5,6 +5,10 @@
 //! length of its file in two and 92 for the file; three multipliers of four; a
 //! feature in one. Training is lent the three multipliers, certifying and
 //! classifying are given the first two, and the feature is the word to classify.
+//! Writing is given the parameters in the file's header, and the items of its
+//! records 1 and 2, the second one again and again; how many items there are
+//! stands where the first multiplier does, how many places the output has where
+//! the second does.
 
 use crate::{two_bytes, Streams};
 use reference::settled::{table, Call, Case};
@@ -27,6 +31,7 @@ fn entry(case: &Case) -> Vec<u8> {
         Call::Train => (0, [9, 9, 9], 0),
         Call::Certify([first, second]) => (1, [first, second, 0], 0),
         Call::Classify([first, second], word) => (2, [first, second, 0], word),
+        Call::Write { items, places } => (3, [items as u32, places as u32, 0], 0),
     };
     let mut entry = padded(case.name.as_bytes(), NAME);
     entry.push(kind);
