@@ -221,7 +221,7 @@ pub too-many-unreadable : (p : Parameters) (rows : List (List ℤ)) (file : List
     → reading file ≡ reader.refused (refusal 1)
 too-many-unreadable p rows file stores many = many-read file p (length rows) _ _ stores many
 
--- There is such a file for all rows of signed bytes.
+-- There is such a file, as a list of numbers, for all rows of signed bytes.
 pub rows-stored : (p : Parameters) (rows : List (List ℤ)) → ((k i : ℕ) → mag (getD (getD rows k []) i (pos 0)) < signedMost)
     → (file : List ℕ) × StoresRows file p rows
 rows-stored p rows small = (
