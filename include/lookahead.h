@@ -1,5 +1,6 @@
 /* The look-ahead trainer for C: reading a file, training on it, certifying
- * multipliers of it, classifying a word by them, and writing a file.
+ * multipliers of it, classifying a word by them, writing a file of items in
+ * memory, and importing a text in LIBSVM's line form as a file.
  *
  * Any bytes and any numbers may be handed over. Every call answers a
  * lookahead_answer, reading with what it reads beside it: the number 0, or that
@@ -8,7 +9,8 @@
  *
  * The four calls that take a file test in the order 1, 2, then 3 and 16, where
  * one walk along the chain finds whichever fault comes first on it, then 4, 5
- * and 6 to 9. Writing tests in the order 2, 1, 4, 5, 10.
+ * and 6 to 9. Writing tests in the order 2, 1, 4, 5, 10, importing in the order
+ * 2, 11, 12, 4, 5, 10.
  *
  * What the caller sees to, for every call:
  * - a pointer is not null, also where its length is 0, and is aligned for its
@@ -23,7 +25,8 @@
  * n below is the number of items: the records on the file's chain. It is at
  * most LOOKAHEAD_MOST_ITEMS and at most the number of records stored, which
  * bytes 0 and 1 of the file hold, low byte first. lookahead_read answers n.
- * For writing, n is the number of items handed over. */
+ * For writing, n is the number of items handed over, for importing the number
+ * of lines in the text. */
 #ifndef LOOKAHEAD_H
 #define LOOKAHEAD_H
 
@@ -35,7 +38,7 @@
 #define LOOKAHEAD_MOST_ITEMS 256
 
 /* No file is longer than this, 5152 bytes, so that an output of this length is
- * always long enough to write into. */
+ * always long enough to write or to import into. */
 #define LOOKAHEAD_MOST_FILE (32 + 20 * LOOKAHEAD_MOST_ITEMS)
 
 /* How many features an item has, in use or not. */
@@ -58,7 +61,7 @@ typedef struct {
 /* Refusals that whoever wrote the file can cause. Every call that takes a file
  * can answer them. Records that are not on the chain are not judged, whatever
  * they hold. Writing answers 1, 2, 4 and 5 for like faults of what it is
- * handed; lookahead_write says which.
+ * handed, importing 2, 4 and 5; lookahead_write and lookahead_import say which.
  *
  * LENGTH     under 32 bytes, more than 256 records, or a length that is not
  *            32 + 20 for each record
@@ -77,9 +80,17 @@ typedef struct {
 #define LOOKAHEAD_REFUSED_RECORD 4
 #define LOOKAHEAD_REFUSED_LABELS 5
 
+/* Refusals that whoever wrote the text can cause, beside 4 and 5. Importing
+ * alone answers them.
+ *
+ * TEXT   a text that is not of the form that lookahead_import describes
+ * LINES  a text of more than 256 lines */
+#define LOOKAHEAD_REFUSED_TEXT 11
+#define LOOKAHEAD_REFUSED_LINES 12
+
 /* Refusals that the caller can cause. Reading answers none of them, training
  * only the first, certifying the first three, classifying the first four,
- * writing only the last.
+ * writing and importing only the last.
  *
  * COUNT    training: a lent list shorter than n; certifying and classifying:
  *          multipliers not exactly n in number; classifying: a word that has
@@ -88,7 +99,7 @@ typedef struct {
  * BALANCE  the multipliers of items looked up and of items passed over have
  *          different sums
  * FEATURE  a feature of the word outside -127 to 127
- * OUTPUT   writing: a lent output shorter than the file */
+ * OUTPUT   writing and importing: a lent output shorter than the file */
 #define LOOKAHEAD_REFUSED_COUNT 6
 #define LOOKAHEAD_REFUSED_CEILING 7
 #define LOOKAHEAD_REFUSED_BALANCE 8
@@ -106,7 +117,8 @@ typedef struct {
 #define LOOKAHEAD_SQUARE 1
 #define LOOKAHEAD_OVERLAP 2
 
-/* The parameters of a file: reading answers them, writing takes them.
+/* The parameters of a file: reading answers them, writing and importing take
+ * them.
  *
  * used            d, how many features are in use: 1 to 16
  * kernel          LOOKAHEAD_LINEAR, LOOKAHEAD_SQUARE or LOOKAHEAD_OVERLAP
@@ -321,6 +333,54 @@ lookahead_answer lookahead_write(lookahead_parameters parameters,
                                  const lookahead_item *items, size_t items_len,
                                  uint8_t *output, size_t output_len,
                                  size_t *length);
+
+/* Imports a text: writes a file of parameters and of the items in the text, one
+ * for each line, in the order of the lines. It is the file that lookahead_write
+ * makes of the same parameters and items.
+ *
+ * The form of a text is LIBSVM's line form with whole numbers alone. A text is
+ * any number of lines, also none. A line has these parts, and nothing before,
+ * between or after them:
+ * - the label, +1 of an item looked up or -1 of one passed over;
+ * - any number of groups, also none, each of one space, a feature number, a
+ *   colon and a value;
+ * - a newline, the byte 10, which the last line has too.
+ * Feature numbers rise strictly along a line, and are 1 to the number of
+ * features in use; a feature whose number is left out is 0. A value is decimal
+ * digits, with a minus sign ahead of them or without. Neither number has a
+ * leading zero, and -0 is not allowed. With three features in use, these are
+ * three lines:
+ *
+ *     +1 1:3 3:-4
+ *     +1 2:5
+ *     -1
+ *
+ * Handed over: a text of any length, which needs no 0 byte after it.
+ *
+ * Lent: output, of 32 + 20 * n bytes or more, for which LOOKAHEAD_MOST_FILE is
+ * always enough, however long the text, and the single number. What stands in
+ * them beforehand does not matter.
+ *
+ * After number 0: *length is the file's length, 32 + 20 * n. The first *length
+ * bytes of output hold the file, and later bytes what they held. Reading it
+ * answers the same parameters, and record r holds the item of line r.
+ *
+ * What each refusal means here:
+ *
+ * HEADER  a parameter beyond its range
+ * TEXT    a text that is not of this form, in whichever of its lines, however
+ *         many there are; also a feature number that is 0, that is above the
+ *         number of features in use, or that does not rise
+ * LINES   more than LOOKAHEAD_MOST_ITEMS lines
+ * RECORD  a value outside -127 to 127, of however many digits
+ * LABELS  no line with one of the two labels, or no lines at all
+ * OUTPUT  an output shorter than 32 + 20 * n bytes
+ *
+ * Refusals: 2, 11, 12, 4, 5, 10. Both lent things are then as they were. */
+lookahead_answer lookahead_import(lookahead_parameters parameters,
+                                  const uint8_t *text, size_t text_len,
+                                  uint8_t *output, size_t output_len,
+                                  size_t *length);
 
 #ifdef __cplusplus
 }

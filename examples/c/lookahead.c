@@ -2,9 +2,10 @@
  * with how far each can be from the best, and classifies words: a plain one, one
  * exactly on the line, those with the highest and the lowest feature, and one
  * with a feature that none may have. Then it reads the file with a damaged
- * chain, and says which record to open. At the end it writes files: the same
- * items out of memory, the small file with another budget, and one for which
- * there is no room. */
+ * chain, and says which record to open. Then it writes files: the same items out
+ * of memory, the small file with another budget, and one for which there is no
+ * room. At the end it imports a text in LIBSVM's line form, and one that is
+ * refused. */
 #include <inttypes.h>
 #include <stdbool.h>
 #include <stdio.h>
@@ -236,23 +237,28 @@ static void read_damaged(const uint8_t *file, uint16_t record, uint16_t next) {
     read_file(&model, damaged, FILE_LENGTH);
 }
 
-/* Writes into so many bytes of the output, and where that is not refused, reads
- * what was written and trains on it. */
+/* Ends the line with the length of a file that was written, reads the file and
+ * trains on it. */
+static void train_written(const uint8_t *file, size_t length) {
+    Model written;
+    printf("length %zu\n", length);
+    printf("read: ");
+    if (read_file(&written, file, length)) {
+        train(&written);
+    }
+}
+
+/* Writes into so many bytes of the output, and where that is not refused, trains
+ * on what was written. */
 static void write_file(const char *call, lookahead_parameters parameters,
                        const lookahead_item *items, size_t items_len, size_t output_len) {
     uint8_t output[LOOKAHEAD_MOST_FILE];
-    Model written;
     size_t length;
     lookahead_answer answer =
         lookahead_write(parameters, items, items_len, output, output_len, &length);
     printf("%s: ", call);
-    if (refused(answer)) {
-        return;
-    }
-    printf("length %zu\n", length);
-    printf("read: ");
-    if (read_file(&written, output, length)) {
-        train(&written);
+    if (!refused(answer)) {
+        train_written(output, length);
     }
 }
 
@@ -277,6 +283,35 @@ static void write_with_no_budget(const Model *model) {
     write_file("write with budget 0", parameters, items, model->reading.items, LOOKAHEAD_MOST_FILE);
 }
 
+/* Imports a text, and where that is not refused, trains on what was written. */
+static void import_text(const char *call, lookahead_parameters parameters, const char *text) {
+    uint8_t output[LOOKAHEAD_MOST_FILE];
+    size_t length;
+    lookahead_answer answer = lookahead_import(parameters, (const uint8_t *)text, strlen(text),
+                                               output, LOOKAHEAD_MOST_FILE, &length);
+    printf("%s: ", call);
+    if (!refused(answer)) {
+        train_written(output, length);
+    }
+}
+
+/* Three items of three features: two were looked up, one was passed over. A
+ * feature that a line leaves out is 0. The second text has a fraction, which
+ * LIBSVM takes and importing does not. */
+static void import_texts(void) {
+    const lookahead_parameters parameters = {
+        .used = 3,
+        .kernel = LOOKAHEAD_LINEAR,
+        .grid = 100,
+        .ceiling = 1000,
+        .second_ceiling = 0,
+        .tolerance = 0,
+        .budget = 50,
+    };
+    import_text("import", parameters, "+1 1:3 3:-4\n+1 2:5\n-1\n");
+    import_text("import with a fraction", parameters, "+1 1:0.5\n-1\n");
+}
+
 int main(void) {
     uint8_t file[FILE_LENGTH] = {0};
     const uint32_t zeros[] = {0, 0}, unbalanced[] = {5, 4};
@@ -298,5 +333,6 @@ int main(void) {
     read_damaged(file, 3, 4);
     write_items(model.reading.parameters);
     write_with_no_budget(&model);
+    import_texts();
     return 0;
 }

@@ -2,9 +2,10 @@
 //! with how far each can be from the best, and classifies words: a plain one, one
 //! exactly on the line, those with the highest and the lowest feature, and one
 //! with a feature that none may have. Then it reads the file with a damaged
-//! chain, and says which record to open. At the end it writes files: the same
-//! items out of memory, the small file with another budget, and one for which
-//! there is no room.
+//! chain, and says which record to open. Then it writes files: the same items out
+//! of memory, the small file with another budget, and one for which there is no
+//! room. At the end it imports a text in LIBSVM's line form, and one that is
+//! refused.
 
 #[path = "../../include/lookahead.rs"]
 mod declared;
@@ -13,9 +14,9 @@ mod declared;
 /// and what a call writes is a place of its own.
 mod lookahead {
     use super::declared::{
-        lookahead_certify, lookahead_classify, lookahead_read, lookahead_train, lookahead_write,
-        LookaheadAnswer, LOOKAHEAD_CONVERGED, LOOKAHEAD_LOOKED_UP, LOOKAHEAD_PASSED_OVER,
-        LOOKAHEAD_STUCK,
+        lookahead_certify, lookahead_classify, lookahead_import, lookahead_read, lookahead_train,
+        lookahead_write, LookaheadAnswer, LOOKAHEAD_CONVERGED, LOOKAHEAD_LOOKED_UP,
+        LOOKAHEAD_PASSED_OVER, LOOKAHEAD_STUCK,
     };
     use std::fmt;
 
@@ -186,6 +187,27 @@ mod lookahead {
                 parameters,
                 items.as_ptr(),
                 items.len(),
+                output.as_mut_ptr(),
+                output.len(),
+                &mut length,
+            )
+        };
+        unless_refused(answer, length)
+    }
+
+    /// The length of the file, which the output's first bytes hold.
+    pub fn import(
+        parameters: Parameters,
+        text: &[u8],
+        output: &mut [u8],
+    ) -> Result<usize, Refusal> {
+        let mut length = 0;
+        // SAFETY: as in `read`.
+        let answer = unsafe {
+            lookahead_import(
+                parameters,
+                text.as_ptr(),
+                text.len(),
                 output.as_mut_ptr(),
                 output.len(),
                 &mut length,
@@ -385,16 +407,14 @@ fn print_damaged(file: &[u8], record: u16, next: u16) {
     }
 }
 
-/// Writes into so many bytes, and where that is not refused, reads what was
-/// written and trains on it.
+/// What a call wrote into the output: the length of the file, which is read and
+/// trained on, or the refusal.
 fn print_written(
     call: &str,
-    parameters: Parameters,
-    items: &[Item],
-    bytes: usize,
+    written: Result<usize, Refusal>,
+    output: &[u8],
 ) -> Result<(), Refusal> {
-    let mut output = vec![0; bytes];
-    match lookahead::write(parameters, items, &mut output) {
+    match written {
         Ok(length) => {
             println!("{call}: length {length}");
             train(&mut read(&output[..length])?)
@@ -406,14 +426,27 @@ fn print_written(
     }
 }
 
+/// Writes into so many bytes, and where that is not refused, trains on what was
+/// written.
+fn write_file(
+    call: &str,
+    parameters: Parameters,
+    items: &[Item],
+    bytes: usize,
+) -> Result<(), Refusal> {
+    let mut output = vec![0; bytes];
+    let written = lookahead::write(parameters, items, &mut output);
+    print_written(call, written, &output)
+}
+
 /// The same two items in memory, with the parameters of a file.
 fn write_items(parameters: Parameters) -> Result<(), Refusal> {
     let items = [
         item(LOOKAHEAD_LOOKED_UP, 1),
         item(LOOKAHEAD_PASSED_OVER, -1),
     ];
-    print_written("write", parameters, &items, lookahead::MOST_FILE)?;
-    print_written("write into 71 bytes", parameters, &items, 71)
+    write_file("write", parameters, &items, lookahead::MOST_FILE)?;
+    write_file("write into 71 bytes", parameters, &items, 71)
 }
 
 /// The items of a file that was read, with another budget.
@@ -427,12 +460,36 @@ fn write_with_no_budget(model: &Model) -> Result<(), Refusal> {
         budget: 0,
         ..model.parameters
     };
-    print_written(
+    write_file(
         "write with budget 0",
         parameters,
         &items,
         lookahead::MOST_FILE,
     )
+}
+
+/// Imports a text, and where that is not refused, trains on what was written.
+fn import_text(call: &str, parameters: Parameters, text: &str) -> Result<(), Refusal> {
+    let mut output = [0; lookahead::MOST_FILE];
+    let written = lookahead::import(parameters, text.as_bytes(), &mut output);
+    print_written(call, written, &output)
+}
+
+/// Three items of three features: two were looked up, one was passed over. A
+/// feature that a line leaves out is 0. The second text has a fraction, which
+/// LIBSVM takes and importing does not.
+fn import_texts() -> Result<(), Refusal> {
+    let parameters = Parameters {
+        used: 3,
+        kernel: LOOKAHEAD_LINEAR,
+        grid: 100,
+        ceiling: 1000,
+        second_ceiling: 0,
+        tolerance: 0,
+        budget: 50,
+    };
+    import_text("import", parameters, "+1 1:3 3:-4\n+1 2:5\n-1\n")?;
+    import_text("import with a fraction", parameters, "+1 1:0.5\n-1\n")
 }
 
 fn main() -> Result<(), Refusal> {
@@ -450,5 +507,6 @@ fn main() -> Result<(), Refusal> {
     print_damaged(&file, 1, 3);
     print_damaged(&file, 3, 4);
     write_items(model.parameters)?;
-    write_with_no_budget(&model)
+    write_with_no_budget(&model)?;
+    import_texts()
 }

@@ -1,6 +1,7 @@
-/* Times the library's five calls and the same calls in plain C, by turns in one run, on each training file named; writing makes the file
- * anew, from the parameters and the items that reading gave. Prints how many times the plain one's time the library takes, for each file,
- * for all files of a kernel, and for all. Ends with status 1 where an answer differs. Refused files are passed over. */
+/* Times the library's calls and the same calls in plain C, by turns in one run. Five of them are timed on each training file named;
+ * writing makes the file anew, from the parameters and the items that reading gave. Importing is timed on two texts. Prints how many times
+ * the plain one's time the library takes, for each file, for all files of a kernel, for all, and for each text. Ends with status 1 where an
+ * answer differs. Refused files are passed over. */
 
 #include "lookahead.h"
 #include <stdio.h>
@@ -9,7 +10,8 @@
 
 enum { PLACES = LOOKAHEAD_MOST_FILE + 1, ROUNDS = 9, KERNELS = 3 };
 
-enum { READ, TRAIN, CERTIFY, CLASSIFY, WRITE, CALLS };
+/* The calls on a file, and importing, which takes none. */
+enum { READ, TRAIN, CERTIFY, CLASSIFY, WRITE, CALLS, IMPORT = CALLS };
 
 static const double LEAST_SECONDS = 0.01;
 static const char *const NAMES[CALLS] = {"read", "train", "certify", "classify", "write"};
@@ -22,6 +24,7 @@ typedef struct {
     __typeof__(lookahead_certify) *certify;
     __typeof__(lookahead_classify) *classify;
     __typeof__(lookahead_write) *write;
+    __typeof__(lookahead_import) *import;
 } Calls;
 
 /* Plain C: tests/compare/stub/stub.c under other names. */
@@ -30,15 +33,22 @@ extern __typeof__(lookahead_train) plain_train;
 extern __typeof__(lookahead_certify) plain_certify;
 extern __typeof__(lookahead_classify) plain_classify;
 extern __typeof__(lookahead_write) plain_write;
+extern __typeof__(lookahead_import) plain_import;
 
-static const Calls LIBRARY = {lookahead_read, lookahead_train, lookahead_certify, lookahead_classify, lookahead_write};
-static const Calls PLAIN = {plain_read, plain_train, plain_certify, plain_classify, plain_write};
+static const Calls LIBRARY = {lookahead_read,     lookahead_train, lookahead_certify,
+                              lookahead_classify, lookahead_write, lookahead_import};
+static const Calls PLAIN = {plain_read, plain_train, plain_certify, plain_classify, plain_write, plain_import};
 
 static uint8_t file[PLACES];
 static size_t length;
 
 /* The file's items in memory, as they are handed over to be written. */
 static lookahead_item items[LOOKAHEAD_MOST_ITEMS];
+
+/* A text to import, of up to 10 MB, and the parameters that it is imported with. */
+static uint8_t text[10000000];
+static size_t text_length;
+static const lookahead_parameters IMPORTED = {LOOKAHEAD_FEATURES, LOOKAHEAD_LINEAR, 1000, 500, 0, 10, 100};
 
 /* Number and record apart, and the parameters one by one: what a struct holds between its fields may be anything, and answers are
  * compared byte by byte. */
@@ -89,8 +99,10 @@ static void make(const Calls *by, int call, Answer *x) {
         keep(x, by->certify(file, length, x->multipliers, x->items, &x->lower, &x->upper));
     else if (call == CLASSIFY)
         keep(x, by->classify(file, length, x->multipliers, x->items, word(), x->used, &x->class));
-    else
+    else if (call == WRITE)
         keep(x, by->write(parameters(x), items, x->items, x->output, sizeof x->output, &x->written));
+    else
+        keep(x, by->import(IMPORTED, text, text_length, x->output, sizeof x->output, &x->written));
 }
 
 static double seconds(const Calls *by, int call, Answer *x, long times) {
@@ -160,6 +172,46 @@ static void print_ratios(const Times *times) {
     printf("\n");
 }
 
+/* A value, drawn so that no processor learns which comes next. */
+static int drawn(void) {
+    static uint64_t state;
+    state = 6364136223846793005 * state + 1442695040888963407;
+    return (int)((state >> 33) % 255) - 127;
+}
+
+/* Adds a line with a value for every feature. */
+static void add_line(size_t number) {
+    text_length += (size_t)sprintf((char *)text + text_length, number % 2 ? "-1" : "+1");
+    for (size_t k = 0; k < LOOKAHEAD_FEATURES; k++) text_length += (size_t)sprintf((char *)text + text_length, " %zu:%d", k + 1, drawn());
+    text[text_length++] = '\n';
+}
+
+/* Times importing the text, which both have to answer with this number. */
+static int time_import(const char *name, uint8_t number) {
+    static Answer x, z;
+    double library, plain;
+    make(&LIBRARY, IMPORT, &x);
+    make(&PLAIN, IMPORT, &z);
+    if (x.refusal != number || memcmp(&x, &z, sizeof x) != 0) {
+        fprintf(stderr, "%s: the answers differ\n", name);
+        return 0;
+    }
+    measure(IMPORT, &x, &library, &plain);
+    printf("%s, %zu bytes: import %.2f, plain %.1f MB/s\n", name, text_length, library / plain, 1e-6 * (double)text_length / plain);
+    return 1;
+}
+
+/* A text as long as can be imported, and one of 10 MB of which the last byte is the first that is wrong: a newline for a value. */
+static int time_imports(void) {
+    static const char WRONG_END[] = "+1 1:\n";
+    for (size_t i = 0; i < LOOKAHEAD_MOST_ITEMS; i++) add_line(i);
+    if (!time_import("256 lines of 16 values", 0)) return 0;
+    for (size_t i = LOOKAHEAD_MOST_ITEMS; text_length + 200 < sizeof text; i++) add_line(i);
+    memcpy(text + text_length, WRONG_END, sizeof WRONG_END - 1);
+    text_length += sizeof WRONG_END - 1;
+    return time_import("a text refused for its last byte", LOOKAHEAD_REFUSED_TEXT);
+}
+
 int main(int count, char **names) {
     static Answer x, z;
     Times of_kernel[KERNELS] = {0}, all = {0};
@@ -183,5 +235,5 @@ int main(int count, char **names) {
     }
     printf("all:");
     print_ratios(&all);
-    return 0;
+    return time_imports() ? 0 : 1;
 }

@@ -1,9 +1,9 @@
 -- Document 01, "Settled examples": P1 to P12 as one table of inputs and results, and one theorem, by the definitions that the
--- contracts of the public calls cite. E1 to E3, K1 to K4, F1 to F6, I1 to I7 and B1 to B7 are our own, for requests (e), (k), (f), (i) and
--- (b) of document 02. Assumes nothing.
+-- contracts of the public calls cite. E1 to E3, K1 to K4, F1 to F6, I1 to I7, B1 to B7 and C1 to C7 are our own, for requests (e), (k),
+-- (f), (i), (b) and (c) of document 02. Assumes nothing.
 use mathlib.Core.Path.{_≡_, refl}
 use mathlib.Core.Bool.{Bool, false}
-use mathlib.Core.List.{List, [], _∷_, _++_}
+use mathlib.Core.List.{List, [], _∷_, _++_, flatten}
 use mathlib.Core.Option.{Option, none, some}
 use Prim.Native.Nat.{ℕ}
 use lib.IntN.{ℤ, pos, negsuc}
@@ -40,6 +40,11 @@ use Rattle.classifying.specs.Classify.{classifying, score, scoreWith}
 use Rattle.written_file.specs.File.{recordsTo}
 use Rattle.written_file.specs.Output.{Writing, wrote, refused as notWritten}
 use Rattle.writing.specs.Writing.{writing}
+use Rattle.text.specs.Decimal as decimal
+use Rattle.libsvm_text.specs.Form.{numeral}
+use Rattle.libsvm_text.specs.Items.{featureIn}
+use Rattle.libsvm_text.specs.Lines.{lastOf, linesFrom, step}
+use Rattle.importing.specs.Importing.{importing}
 
 -- ---- the files, byte for byte: d 1; kernel, S, c, t, budget (each below 256); records chained in their order, by label and feature byte.
 -- Of the ceiling for label −1, two bytes that are not always 0
@@ -128,6 +133,31 @@ greatestFile =
     ++ (2 ∷ 0 ∷ 1 ∷ 0 ∷ 127 ∷ replicate 15 129)
     ++ (0 ∷ 0 ∷ 2 ∷ 0 ∷ replicate 16 129)
 
+-- ---- what is imported: two features in use
+abbrev twoUsed : Parameters
+twoUsed = record { used = 2; kernel = Linear; grid = 1000; ceiling = 500; «second_ceiling» = 0; tolerance = 10; budget = 100 }
+
+-- the lines `+1 1:127` and `-1 1:-3 2:5`, and the file of them
+abbrev twoLines : List ℕ
+twoLines =
+    (43 ∷ 49 ∷ 32 ∷ 49 ∷ 58 ∷ 49 ∷ 50 ∷ 55 ∷ 10 ∷ [])
+    ++ (45 ∷ 49 ∷ 32 ∷ 49 ∷ 58 ∷ 45 ∷ 51 ∷ 32 ∷ 50 ∷ 58 ∷ 53 ∷ 10 ∷ [])
+
+abbrev twoLinesFile : List ℕ
+twoLinesFile =
+    (2 ∷ 0 ∷ 1 ∷ 0 ∷ 2 ∷ 0 ∷ 0 ∷ 0 ∷ 232 ∷ 3 ∷ 0 ∷ 0 ∷ 244 ∷ 1 ∷ 0 ∷ 0 ∷ [])
+    ++ (10 ∷ 0 ∷ 0 ∷ 0 ∷ 0 ∷ 0 ∷ 0 ∷ 0 ∷ 100 ∷ 0 ∷ 0 ∷ 0 ∷ 0 ∷ 0 ∷ 0 ∷ 0 ∷ [])
+    ++ (2 ∷ 0 ∷ 1 ∷ 0 ∷ 127 ∷ 0 ∷ 0 ∷ 0 ∷ 0 ∷ 0 ∷ 0 ∷ 0 ∷ 0 ∷ 0 ∷ 0 ∷ 0 ∷ 0 ∷ 0 ∷ 0 ∷ 0 ∷ [])
+    ++ (0 ∷ 0 ∷ 2 ∷ 0 ∷ 253 ∷ 5 ∷ 0 ∷ 0 ∷ 0 ∷ 0 ∷ 0 ∷ 0 ∷ 0 ∷ 0 ∷ 0 ∷ 0 ∷ 0 ∷ 0 ∷ 0 ∷ 0 ∷ [])
+
+-- a line more, `-1 1:1`
+abbrev andMinus : List ℕ → List ℕ
+andMinus text = text ++ (45 ∷ 49 ∷ 32 ∷ 49 ∷ 58 ∷ 49 ∷ 10 ∷ [])
+
+-- 256 lines `+1`, and a last one
+abbrev manyLines : List ℕ → List ℕ
+manyLines last = flatten (replicate 256 (43 ∷ 49 ∷ 10 ∷ [])) ++ last
+
 -- ---- the cases
 pub data Case : Type 0 where
   -- the file; ending, steps, b_low, b_up; the lent list of three 9s afterwards
@@ -142,6 +172,8 @@ pub data Case : Type 0 where
   classifies : List ℕ → List ℕ → List ℤ → Classified → ℤ → Case
   -- the parameters, the items, the length of the output; the file or the refusal
   writes : Parameters → List (List ℤ) → ℕ → Writing → Case
+  -- the parameters, the text, the length of the output; the file or the refusal
+  imports : Parameters → List ℕ → ℕ → Writing → Case
 
 abbrev trained : List ℕ → TrainingLeft
 trained file = trainFile file (replicate 3 9) (replicate 3 (pos 9))
@@ -168,6 +200,7 @@ Holds (firstPairStays file) = firstPairMoves (reading file) ≡ some false
 Holds (certifies file a answer) = certifying file a ≡ answer
 Holds (classifies file a word answer v) = (classifying file a word ≡ answer) × (value (reading file) a word ≡ v)
 Holds (writes p items room answer) = writing p items room ≡ answer
+Holds (imports p text room answer) = importing p text room ≡ answer
 
 abbrev pub AllHold : List Case → Type 0
 AllHold [] = Unit {0}
@@ -222,11 +255,18 @@ settledExamples =
     ∷ writes (parametersWith 10) (row (pos 1) (pos 1) ∷ row (negsuc 0) (pos 1) ∷ []) 3 (notWritten (refusal 5))  -- B6
     ∷ writes (parametersWith 10) [] 3 (notWritten (refusal 5))
     ∷ writes (parametersWith 10) plusMinusItems 71 (notWritten (refusal 10))  -- B7
+    ∷ imports twoUsed twoLines 73 (wrote twoLinesFile)  -- C1
+    ∷ imports twoUsed (andMinus (43 ∷ 49 ∷ 32 ∷ 49 ∷ 58 ∷ 49 ∷ 50 ∷ 56 ∷ 10 ∷ [])) 3 (notWritten (refusal 4))  -- C2, `+1 1:128`
+    ∷ imports twoUsed (andMinus (43 ∷ 49 ∷ 32 ∷ 49 ∷ 58 ∷ 48 ∷ 49 ∷ 50 ∷ 56 ∷ 10 ∷ [])) 3 (notWritten (refusal 11))  -- C3, `+1 1:0128`
+    ∷ imports twoUsed [] 3 (notWritten (refusal 5))  -- C4
+    ∷ imports twoUsed (45 ∷ 49 ∷ 32 ∷ 49 ∷ 58 ∷ 45 ∷ 48 ∷ 10 ∷ 43 ∷ 49 ∷ 10 ∷ []) 3 (notWritten (refusal 11))  -- C5, `-1 1:-0`, `+1`
+    ∷ imports twoUsed (manyLines (45 ∷ 49 ∷ 10 ∷ [])) 3 (notWritten (refusal 12))  -- C6, the last `-1`
+    ∷ imports twoUsed (manyLines (45 ∷ 49 ∷ 32 ∷ 10 ∷ [])) 3 (notWritten (refusal 11))  -- C7, the last `-1 `
     ∷ []
 
 pub settled : AllHold settledExamples
 unfolding
-    reading lengthAllowed headerAllowed parametersAllowed recordsMet every recordAllowed featuresAllowed labelled sum extreme first all written gradient doubleSum objective amount firstCandidate workingPair turn run scoreWith tabulate recordsTo writing
+    reading lengthAllowed headerAllowed parametersAllowed recordsMet every recordAllowed featuresAllowed labelled sum extreme first all written gradient doubleSum objective amount firstCandidate workingPair turn run scoreWith tabulate recordsTo writing flatten decimal.value numeral lastOf step linesFrom featureIn importing
 settled = (
   (refl, refl),
   (
@@ -245,7 +285,7 @@ settled = (
                 (refl, refl),
                 (
                   refl,
-                  ((refl, refl), (refl, (refl, (refl, ((refl, refl), ((refl, refl), ((refl, refl), ((refl, refl), ((refl, refl), (refl, (refl, (refl, (refl, ((refl, refl), ((refl, refl), ((refl, refl), (refl, (refl, (refl, ((refl, refl), ((refl, refl), ((refl, refl), ((refl, refl), (refl, ((refl, refl), ((refl, refl), ((refl, refl), (refl, (refl, (refl, (refl, (refl, (refl, (refl, (refl, (refl, (refl, (refl, tt)))))))))))))))))))))))))))))))))))))),
+                  ((refl, refl), (refl, (refl, (refl, ((refl, refl), ((refl, refl), ((refl, refl), ((refl, refl), ((refl, refl), (refl, (refl, (refl, (refl, ((refl, refl), ((refl, refl), ((refl, refl), (refl, (refl, (refl, ((refl, refl), ((refl, refl), ((refl, refl), ((refl, refl), (refl, ((refl, refl), ((refl, refl), ((refl, refl), (refl, (refl, (refl, (refl, (refl, (refl, (refl, (refl, (refl, (refl, (refl, (refl, (refl, (refl, (refl, (refl, (refl, (refl, tt))))))))))))))))))))))))))))))))))))))))))))),
                 ),
               ),
             ),

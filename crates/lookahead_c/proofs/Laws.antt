@@ -2,3 +2,4 @@
 pub mod Certifying
 pub mod Refusals
 pub mod Training
+pub mod Writing

@@ -1,4 +1,5 @@
 -- The parameters as numbers alone, as a caller in C has them. Assumes nothing.
+use Rattle.training_file.specs.declared.parameters.Kernel.{Kernel}
 use Rattle.training_file.specs.declared.parameters.Parameters.{Parameters}
 use Rattle.training_file.specs.Parameters.{byteOfKernel, kernelOfByte}
 use Rattle.lookahead_c.specs.declared.parameters.ParameterNumbers.{ParameterNumbers}
@@ -19,15 +20,19 @@ parameterNumbers p =
 abbrev pub noParameters : ParameterNumbers
 noParameters = record { used = 0; kernel = 0; grid = 0; ceiling = 0; «second_ceiling» = 0; tolerance = 0; budget = 0 }
 
--- the parameters that such numbers say, where the kernel's byte is allowed
-abbrev pub parametersIn : ParameterNumbers → Parameters
-parametersIn q =
+-- the parameters that such numbers say, with a kernel in the place of its byte
+abbrev pub parametersBy : ParameterNumbers → Kernel → Parameters
+parametersBy q kernel =
     record {
       used = q .used;
-      kernel = kernelOfByte (q .kernel);
+      kernel = kernel;
       grid = q .grid;
       ceiling = q .ceiling;
       «second_ceiling» = q .«second_ceiling»;
       tolerance = q .tolerance;
       budget = q .budget;
     }
+
+-- the parameters that such numbers say, where the kernel's byte is allowed
+abbrev pub parametersIn : ParameterNumbers → Parameters
+parametersIn q = parametersBy q (kernelOfByte (q .kernel))

@@ -4,6 +4,7 @@
 
 pub mod certify;
 pub mod classify;
+pub mod import;
 mod numbering;
 pub mod parameters;
 pub mod read;

@@ -1,7 +1,8 @@
 // The parameters as C and Rust have them: numbers alone, the kernel by its byte.
 
 ghost use mathlib.Core.Path.{_≡_};
-ghost use Rattle.lookahead_c.specs.Parameters.{parameterNumbers};
+ghost use Rattle.lookahead_c.specs.Parameters.{parameterNumbers, parametersBy};
+use lookahead::Kernel;
 use lookahead::Parameters;
 
 #[repr(C)]
@@ -40,6 +41,21 @@ impl ParameterNumbers {
             second_ceiling: parameters.second_ceiling,
             tolerance: parameters.tolerance,
             budget: parameters.budget,
+        }
+    }
+
+    // The parameters that the numbers say, with a kernel in the place of its byte.
+    pub fn with_kernel(self, kernel: Kernel) -> Parameters
+        ensures { λ r. ⌜ r ≡ parametersBy self kernel ⌝ }
+    {
+        Parameters {
+            used: self.used,
+            kernel,
+            grid: self.grid,
+            ceiling: self.ceiling,
+            second_ceiling: self.second_ceiling,
+            tolerance: self.tolerance,
+            budget: self.budget,
         }
     }
 }

@@ -7,7 +7,6 @@ use super::parameters::ParameterNumbers;
 use lookahead::Count;
 use lookahead::Kernel;
 use lookahead::KernelAnswer;
-use lookahead::Parameters;
 use lookahead::Refusal;
 use lookahead::Row;
 
@@ -27,19 +26,7 @@ pub extern "C" fn lookahead_write(
     let KernelAnswer::Known(kernel) = known else {
         return known.refusal();
     };
-    let answer = lookahead::write::write(
-        Parameters {
-            used: parameters.used,
-            kernel,
-            grid: parameters.grid,
-            ceiling: parameters.ceiling,
-            second_ceiling: parameters.second_ceiling,
-            tolerance: parameters.tolerance,
-            budget: parameters.budget,
-        },
-        items,
-        output,
-    );
+    let answer = lookahead::write::write(parameters.with_kernel(kernel), items, output);
     let Count::Counted(written) = answer else {
         return answer.refusal();
     };

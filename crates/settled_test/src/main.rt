@@ -1,7 +1,7 @@
 // Runs the cases of its input through the library, a line each. They are document 01's settled examples P1 to P12, with the lines the
-// results settled there, our own E1 to E3, K1 to K4, F1 to F6, I1 to I7 and B1 to B7, and words at the ends of the range; the table is
-// tests/reference/src/settled.rs. That the definitions give the settled results is the theorem `settled`; this shows the compiled code give
-// them.
+// results settled there, our own E1 to E3, K1 to K4, F1 to F6, I1 to I7, B1 to B7 and C1 to C7, and words at the ends of the range; the
+// table is tests/reference/src/settled.rs. That the definitions give the settled results is the theorem `settled`; this shows the compiled
+// code give them.
 
 ghost use mathlib.Core.Path.{_≡_};
 ghost use Prim.Native.Nat.{_+_, _≤_};
@@ -56,15 +56,19 @@ const RECORD_1: usize = 40;
 
 const RECORD_2: usize = 60;
 
-// The kinds of a case. Any other kind writes.
+// The kinds of a case. Any other kind imports.
 const TRAIN: u8 = 0;
 
 const CERTIFY: u8 = 1;
 
 const CLASSIFY: u8 = 2;
 
-// The most items that a case has to write, and the most places of its output.
+const WRITE: u8 = 3;
+
+// The most items that a case has to write, more bytes than it has to import, and the most places of its output.
 const ITEMS: usize = 257;
+
+const TEXT: usize = 800;
 
 const PLACES: usize = 73;
 
@@ -178,17 +182,6 @@ fn show_bytes(bytes: &[u8]) {
     }
 }
 
-// The places hold 9s beforehand: what writing leaves alone shows.
-fn write(parameters: Parameters, items: &[Row], places: usize)
-    requires { ⌜ places ≤ 73 ⌝ }
-{
-    let mut output = [9u8; PLACES];
-    let lent = &mut output[0..places];
-    show_count(lookahead::write::write(parameters, items, lent));
-    io::write_all(STDOUT_FILENO, b", output");
-    show_bytes(lent);
-}
-
 // The features and the label of the record that begins there.
 fn row(case: &[u8], at: usize) -> Row
     requires { ⌜ at + 20 ≤ length (now case) ⌝ }
@@ -223,7 +216,43 @@ fn parameters(case: &[u8], kernel: Kernel) -> Parameters
 }
 
 // The first item is that of record 1, every other one that of record 2.
-fn write_case(case: &[u8], count: usize, places: usize)
+fn write(case: &[u8], parameters: Parameters, count: usize, output: &mut [u8]) -> Count
+    requires { ⌜ length (now case) ≡ 113 ⌝ }
+    requires { ⌜ count ≤ 257 ⌝ }
+{
+    let mut items = [row(case, RECORD_2); ITEMS];
+    items[0] = row(case, RECORD_1);
+    lookahead::write::write(parameters, &items[0..count], output)
+}
+
+// Puts the text behind a file's header, with its first line so often, as far as there is room, and answers its length.
+fn put_text(text: &mut [u8], file: &[u8], times: usize) -> usize
+    ensures { λ r. ⌜ r ≤ length (now (text .exit)) ⌝ }
+{
+    let mut left = times;
+    let mut from = layout::HEADER_LENGTH;
+    let mut at = 0;
+    while from < file.len() && at < text.len() {
+        let byte = file[from];
+        text[at] = byte;
+        at += 1;
+        from += 1;
+        if byte == b'\n' && 1 < left {
+            left -= 1;
+            from = layout::HEADER_LENGTH;
+        }
+    }
+    at
+}
+
+fn import(file: &[u8], parameters: Parameters, times: usize, output: &mut [u8]) -> Count {
+    let mut text = [0u8; TEXT];
+    let end = put_text(&mut text, file, times);
+    lookahead::import::import(parameters, &text[0..end], output)
+}
+
+// Writes so many items, or imports a text with so many first lines. The places hold 9s beforehand: what is left alone shows.
+fn make_file(case: &[u8], times: usize, places: usize)
     requires { ⌜ length (now case) ≡ 113 ⌝ }
 {
     let answer = Kernel::from_byte(case[HEADER + layout::KERNEL]);
@@ -231,12 +260,18 @@ fn write_case(case: &[u8], count: usize, places: usize)
         show_refusal(answer.refusal());
         return;
     };
-    if ITEMS < count || PLACES < places {
+    if ITEMS < times || PLACES < places {
         return;
     }
-    let mut items = [row(case, RECORD_2); ITEMS];
-    items[0] = row(case, RECORD_1);
-    write(parameters(case, kernel), &items[0..count], places);
+    let mut output = [9u8; PLACES];
+    let lent = &mut output[0..places];
+    if case[KIND] == WRITE {
+        show_count(write(case, parameters(case, kernel), times, lent));
+    } else {
+        show_count(import(part(case, FILE), parameters(case, kernel), times, lent));
+    }
+    io::write_all(STDOUT_FILENO, b", output");
+    show_bytes(lent);
 }
 
 // The bytes that come after their length, none where the case hasn't so many.
@@ -266,8 +301,8 @@ fn show_case(case: &[u8])
     } else if kind == CLASSIFY {
         classify(file, &[first, second], &[signed_byte(case[FEATURE])]);
     } else {
-        // How many items there are, and how many places the output has.
-        write_case(case, first as usize, second as usize);
+        // How many items or first lines there are, and how many places the output has.
+        make_file(case, first as usize, second as usize);
     }
     io::write_all(STDOUT_FILENO, b"\n");
 }

@@ -38,6 +38,10 @@ classifyingRefuses = 1 ∷ 2 ∷ 3 ∷ 16 ∷ 4 ∷ 5 ∷ 6 ∷ 7 ∷ 8 ∷ 9 �
 abbrev pub writingRefuses : List ℕ
 writingRefuses = 2 ∷ 1 ∷ 4 ∷ 5 ∷ 10 ∷ []
 
+-- "The order is 2, 11, 12, then 4, 5, 10" (document 02, request (c))
+abbrev pub importingRefuses : List ℕ
+importingRefuses = 2 ∷ 11 ∷ 12 ∷ 4 ∷ 5 ∷ 10 ∷ []
+
 -- the record that is carried: with 3 and 16 one of 1 to 256, otherwise none, for which 0 stands, also where nothing is refused
 pub record RecordCarried (why : Refusal) : Type 0 where
   pub at-fault : (why .number ≡ 3) ⊎ (why .number ≡ 16) → (1 ≤ why .at) × (why .at ≤ 256)

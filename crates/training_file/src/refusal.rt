@@ -47,6 +47,12 @@ impl Refusal {
     // An output shorter than the file to be written.
     pub const OUTPUT: Refusal = Refusal { number: 10, at: 0 };
 
+    // What whoever wrote the text can cause. A text that is not of the form which is imported.
+    pub const TEXT: Refusal = Refusal { number: 11, at: 0 };
+
+    // A text of more than 256 lines.
+    pub const LINES: Refusal = Refusal { number: 12, at: 0 };
+
     // Whoever wrote the file, again. The number of a next field that leads to a record already met; the refusal is `at_record`'s.
     pub const NEXT_MET: u8 = 16;
 }

@@ -3,3 +3,4 @@ pub mod Fields
 pub mod File
 pub mod Stored
 pub mod Output
+pub mod Records

@@ -2,19 +2,27 @@
 
 use crate::answer::{ACCEPTED, NOTHING_READ};
 use crate::expected;
+use crate::imported::compare_importing;
 use crate::library::{self, CertifyAnswer, ClassifyAnswer, ReadAnswer, TrainAnswer};
 use crate::report::{Difference, Tally};
 use crate::written::{compare_anew, compare_write};
 use reference::cases::Drawn;
 use reference::file::{Problem, MOST_RECORDS};
+use reference::generate::first_texts::Kind;
+use reference::generate::importing::Importing;
 use reference::generate::{multipliers, words, writing, Random};
 use std::fmt::{Arguments, Debug};
 
-/// All calls for one file; the first difference ends them. Reading comes after the
-/// calls that were there before it, and writing after all: so their draws change none
-/// of those of the others, and a difference noted with its seed and file number is met
-/// there again.
-pub fn compare(file: &[u8], random: &mut Random, tally: &mut Tally) -> Result<(), Box<Difference>> {
+/// All calls for one file, with the texts that are imported beside it; the first
+/// difference ends them. Reading comes after the calls that were there before it, then
+/// writing, and importing after all: so their draws change none of those of the others,
+/// and a difference noted with its seed and file number is met there again.
+pub fn compare(
+    file: &[u8],
+    texts: &[(Kind, Importing)],
+    random: &mut Random,
+    tally: &mut Tally,
+) -> Result<(), Box<Difference>> {
     let mut drawn = Drawn::of(file.to_vec());
     let trained = compare_train(file, drawn.problem(), random, tally)?;
     for _ in 0..2 {
@@ -31,6 +39,7 @@ pub fn compare(file: &[u8], random: &mut Random, tally: &mut Tally) -> Result<()
     let places = table_length(items(drawn.problem(), random), random);
     compare_read(file, places, random, tally)?;
     compare_writing(file, &mut drawn, random, tally)?;
+    compare_importing(file, &mut drawn, texts, random, tally)?;
     tally.cases.count(&drawn);
     Ok(())
 }

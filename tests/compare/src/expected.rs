@@ -3,8 +3,9 @@
 
 use crate::answer::{reading, refused, ACCEPTED};
 use crate::library::{CertifyAnswer, ClassifyAnswer, ReadAnswer, TrainAnswer, WriteAnswer};
+use reference::generate::importing::Importing;
 use reference::generate::writing::Writing;
-use reference::{Class, Ending};
+use reference::{Class, Ending, Refusal};
 
 /// "ending: 1 converged, 2 stuck, 3 spent" of the C interface.
 fn ending_number(ending: Ending) -> u8 {
@@ -80,8 +81,23 @@ pub fn classify(
 }
 
 pub fn write(handed: &Writing, before: &WriteAnswer) -> WriteAnswer {
+    written(before, |output| {
+        reference::write::write(&handed.numbers, &handed.rows, output)
+    })
+}
+
+pub fn import(handed: &Importing, before: &WriteAnswer) -> WriteAnswer {
+    written(before, |output| {
+        reference::import::import(&handed.numbers, &handed.text, output)
+    })
+}
+
+fn written(
+    before: &WriteAnswer,
+    call: impl Fn(&mut [u8]) -> Result<usize, Refusal>,
+) -> WriteAnswer {
     let mut after = before.clone();
-    match reference::write::write(&handed.numbers, &handed.rows, &mut after.output) {
+    match call(&mut after.output) {
         Err(refusal) => after.returned = refused(refusal),
         Ok(length) => {
             after.returned = ACCEPTED;

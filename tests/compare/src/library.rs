@@ -1,13 +1,16 @@
 //! The library under test, called over its C interface.
 //!
 //! Everything that is lent stands between random places, which must be found
-//! again as they were; the file, the multipliers, the word and the items that a call
-//! may only read are looked at afterwards too.
+//! again as they were; the file, the multipliers, the word, the items and the text that
+//! a call may only read are looked at afterwards too.
 
 use crate::answer::declared::{
-    lookahead_certify, lookahead_classify, lookahead_read, lookahead_train, lookahead_write,
+    lookahead_certify, lookahead_classify, lookahead_import, lookahead_read, lookahead_train,
+    lookahead_write,
 };
-use crate::answer::{parameters, LookaheadAnswer, LookaheadItem, LookaheadReading};
+use crate::answer::{parameters, LookaheadAnswer, LookaheadItem, LookaheadReading, ACCEPTED};
+use reference::generate::importing::Importing;
+use reference::generate::texts::any_byte;
 use reference::generate::writing::Writing;
 use reference::generate::Random;
 use reference::write::Row;
@@ -93,13 +96,25 @@ pub struct ClassifyAnswer {
     pub surroundings_kept: bool,
 }
 
-/// All that can be seen after a writing call.
+/// All that can be seen after a writing or an importing call.
 #[derive(Clone, PartialEq, Eq, Debug)]
 pub struct WriteAnswer {
     pub returned: LookaheadAnswer,
     pub length: usize,
     pub output: Vec<u8>,
     pub surroundings_kept: bool,
+}
+
+impl WriteAnswer {
+    /// What is lent to such a call: a length and an output of so many places.
+    pub fn lent(places: usize, random: &mut Random) -> WriteAnswer {
+        WriteAnswer {
+            returned: ACCEPTED,
+            length: random.draw() as usize,
+            output: random.bytes(places),
+            surroundings_kept: true,
+        }
+    }
 }
 
 /// Calls reading on what `before` holds and gives what stands there after.
@@ -214,6 +229,28 @@ pub fn write(handed: &Writing, before: &WriteAnswer, random: &mut Random) -> Wri
     };
     after.output = output.contents();
     after.surroundings_kept = rows.kept() && output.margins_kept();
+    after
+}
+
+/// Calls importing; the length and the output of `before` stand there ahead of the call.
+/// Around the text are bytes of the form, too, so that a look past its end shows.
+pub fn import(handed: &Importing, before: &WriteAnswer, random: &mut Random) -> WriteAnswer {
+    let text = Lent::new(&handed.text, || any_byte(random));
+    let mut output = Lent::new(&before.output, || random.draw() as u8);
+    let mut after = before.clone();
+    // SAFETY: as in `read`.
+    after.returned = unsafe {
+        lookahead_import(
+            parameters(&handed.numbers),
+            text.read(),
+            text.length,
+            output.write(),
+            output.length,
+            &mut after.length,
+        )
+    };
+    after.output = output.contents();
+    after.surroundings_kept = text.kept() && output.margins_kept();
     after
 }
 

@@ -1,4 +1,4 @@
-//! Compares the library's five calls with the reference on random files.
+//! Compares the library's six calls with the reference on random files.
 //!
 //! `compare [--seed N] [--files N | --soak SECONDS | --only FILE]`: so many
 //! files, or files until the time is over, or one file by its number. The exit
@@ -9,12 +9,15 @@ mod answer;
 mod calls;
 mod expected;
 mod flags;
+mod imported;
 mod library;
 mod report;
 mod watch;
 mod written;
 
 use flags::{Flags, Until, DEFAULT_FILES};
+use reference::generate::first_texts::{first_texts, Kind};
+use reference::generate::importing::Importing;
 use reference::generate::{any_file, systematic, Random};
 use report::{hex, Tally};
 use std::process::ExitCode;
@@ -23,6 +26,9 @@ use std::time::{Duration, Instant};
 
 /// No file takes the reference or the library this long, by far.
 const PATIENCE: Duration = Duration::from_secs(60);
+
+/// So many texts beside each file: all are met in as many files as the gate compares.
+const TEXTS: usize = 8;
 
 fn main() -> ExitCode {
     let flags = match Flags::read(std::env::args().skip(1)) {
@@ -63,6 +69,8 @@ struct Comparison {
     start: Instant,
     /// The files that come first; random ones follow.
     systematic: Vec<Vec<u8>>,
+    /// Texts that are imported beside the first files, some with each.
+    texts: Vec<(Kind, Importing)>,
     next: AtomicU64,
     finished: AtomicU64,
     found: AtomicBool,
@@ -77,6 +85,7 @@ impl Comparison {
         };
         Comparison {
             systematic: systematic(&mut Random::new(flags.seed)),
+            texts: first_texts(&mut Random::new(flags.seed)),
             flags,
             start: Instant::now(),
             next: AtomicU64::new(first),
@@ -142,7 +151,7 @@ impl Comparison {
             watch::at_hand(thread, number);
             let mut random = Random::numbered(self.flags.seed, number);
             let file = self.file(number, &mut random);
-            let compared = calls::compare(&file, &mut random, &mut tally);
+            let compared = calls::compare(&file, self.texts(number), &mut random, &mut tally);
             self.finished.fetch_add(1, Ordering::SeqCst);
             if let Err(difference) = compared {
                 self.found.store(true, Ordering::SeqCst);
@@ -158,6 +167,13 @@ impl Comparison {
             Until::Seconds(seconds) => self.start.elapsed().as_secs() >= seconds,
             Until::Only(only) => number > only,
         }
+    }
+
+    /// The texts that belong to a file's number.
+    fn texts(&self, number: u64) -> &[(Kind, Importing)] {
+        let last = self.texts.len();
+        let start = (number as usize - 1).saturating_mul(TEXTS).min(last);
+        &self.texts[start..(start + TEXTS).min(last)]
     }
 
     fn file(&self, number: u64, random: &mut Random) -> Vec<u8> {

@@ -45,7 +45,7 @@ struct Call {
 
 const KERNELS: [(u8, &str); 3] = [(0, "linear"), (1, "square"), (2, "overlap")];
 
-const CALLS: [Call; 5] = [
+const CALLS: [Call; 6] = [
     Call {
         name: "read",
         answers: &KERNELS,
@@ -70,6 +70,11 @@ const CALLS: [Call; 5] = [
         name: "write",
         answers: &KERNELS,
         refusals: &[2, 1, 4, 5, 10],
+    },
+    Call {
+        name: "import",
+        answers: &KERNELS,
+        refusals: &[2, 11, 12, 4, 5, 10],
     },
 ];
 

@@ -13,7 +13,7 @@ use reference::generate::Random;
 use reference::write::{file_length, rows, Numbers, Row};
 
 /// What reading gives: parameters, the numbers of the records, and the items.
-type Parts = (Numbers, Vec<u16>, Vec<Row>);
+pub type Parts = (Numbers, Vec<u16>, Vec<Row>);
 
 /// Writes an accepted file anew, from what the library reads in it: "an accepted file
 /// with this layout comes out byte for byte".
@@ -51,12 +51,7 @@ pub fn compare_write(
     random: &mut Random,
     tally: &mut Tally,
 ) -> Result<Option<Vec<u8>>, Box<Difference>> {
-    let before = WriteAnswer {
-        returned: ACCEPTED,
-        length: random.draw() as usize,
-        output: random.bytes(handed.places),
-        surroundings_kept: true,
-    };
+    let before = WriteAnswer::lent(handed.places, random);
     let expected = expected::write(handed, &before);
     let answered = library::write(handed, &before, random);
     tally.count("write", expected.returned.number, handed.numbers.kernel);
@@ -96,7 +91,11 @@ fn compare_read_back(
 }
 
 /// What the library reads in an accepted file.
-fn parts(file: &[u8], random: &mut Random, tally: &mut Tally) -> Result<Parts, Box<Difference>> {
+pub fn parts(
+    file: &[u8],
+    random: &mut Random,
+    tally: &mut Tally,
+) -> Result<Parts, Box<Difference>> {
     let read = compare_read(file, MOST_RECORDS, random, tally)?;
     let order = read.order[..read.returned.items].to_vec();
     let rows = rows(file, &order);

@@ -1,10 +1,10 @@
 /* A quick stand-in for the library under test, to try the comparison with.
  *
  * It works otherwise than the reference: the walk along the chain marks the
- * records met in a table, G is carried along from move to move, and the amount
- * of a move comes from a formula. So a run without a mutation also checks the
- * reference. MUTATION (0 is none) makes one thing wrong; the comparison has to
- * find each. The list is in mutations.txt. */
+ * records met in a table, G is carried along from move to move, the amount of a
+ * move comes from a formula, and a text is read byte by byte. So a run without
+ * a mutation also checks the reference. MUTATION (0 is none) makes one thing
+ * wrong; the comparison has to find each. The list is in mutations.txt. */
 
 #include "lookahead.h"
 #include <stdlib.h>
@@ -758,4 +758,284 @@ lookahead_answer lookahead_write(lookahead_parameters parameters, const lookahea
     if (WRONG(330)) *length -= 32;
     if (WRONG(331)) *length = LOOKAHEAD_MOST_FILE;
     return (lookahead_answer){0, WRONG(332) ? (uint16_t)n : 0};
+}
+
+/* A lenient reader takes more than the form: for these mutations a part of a text is read as if the other one stood there. A newline is put
+ * ahead of the text, so that a part can begin with a line. */
+static const struct {
+    int mutation;
+    const char *part, *other;
+} LENIENT[] = {
+    {333, "\n\n", "\n"},     {334, "\r\n", "\n"},     {335, "\t", " "},        {336, "  ", " "},       {337, " \n", "\n"},
+    {338, "\n ", "\n"},      {339, "\n1", "\n+1"},    {340, "\n+2", "\n+1"},   {341, "\n-2", "\n-1"},  {342, "\n+0", "\n-1"},
+    {342, "\n-0", "\n-1"},   {343, "\n+01", "\n+1"},  {344, " 0", " "},        {345, ":00", ":0"},     {345, ":01", ":1"},
+    {345, ":02", ":2"},      {345, ":03", ":3"},      {345, ":04", ":4"},      {345, ":05", ":5"},     {345, ":06", ":6"},
+    {345, ":07", ":7"},      {345, ":08", ":8"},      {345, ":09", ":9"},      {346, ":-01", ":-1"},   {346, ":-02", ":-2"},
+    {346, ":-03", ":-3"},    {346, ":-05", ":-5"},    {346, ":-07", ":-7"},    {346, ":-09", ":-9"},   {347, ":-0\n", ":0\n"},
+    {347, ":-0 ", ":0 "},    {348, ":+", ":"},        {349, ":+0", ":0"},      {350, ":\n", ":0\n"},   {350, ": ", ":0 "},
+    {351, ":-\n", ":0\n"},   {351, ":- ", ":0 "},     {352, "=", ":"},         {353, ";", ":"},        {354, ":--", ":"},
+    {355, "::", ":"},        {356, " # word", ""},    {357, "# word", ""},     {358, ".0", ""},        {359, ".5", ""},
+    {360, "e1", ""},         {361, " +", " "},        {362, " -", " "},        {363, " :", " 1:"},     {364, "\n\r", "\n"},
+    {365, "\x0b", " "},      {366, ",", " "},         {367, "\n\n-1", "\n-1"}, {368, "\n+\n", "\n+1\n"}, {368, "\n-\n", "\n-1\n"},
+    {368, "\n- ", "\n-1 "},  {368, "\n+ ", "\n+1 "},  {369, "\n+1.0", "\n+1"}, {369, "\n-1.0", "\n-1"}, {370, "\n+11", "\n+1"},
+    {371, "\xb1", "1"},      {372, "\x8a", "\n"},     {373, ":0128", ":127"},  {374, "/", "0"},        {375, "\r", ""},
+};
+
+/* The text as such a reader takes it, in memory of its own. */
+static uint8_t *lenient(const uint8_t *text, size_t *len) {
+    uint8_t *copy = malloc(2 * *len + 8), *end = copy;
+    *end++ = '\n';
+    for (size_t k = 0; k < *len; k++) {
+        *end++ = text[k];
+        for (size_t r = 0; r < sizeof LENIENT / sizeof *LENIENT; r++) {
+            size_t part = strlen(LENIENT[r].part), other = strlen(LENIENT[r].other);
+            int ends = (size_t)(end - copy) >= part && memcmp(end - part, LENIENT[r].part, part) == 0;
+            if (LENIENT[r].mutation != MUTATION || !ends) continue;
+            memcpy(end - part, LENIENT[r].other, other);
+            end += other - part;
+        }
+    }
+    *len = (size_t)(end - copy) - 1;
+    return copy;
+}
+
+/* What the first pass finds in a text. */
+typedef struct {
+    size_t lines;
+    int labels; /* both together are 3 */
+    int outside; /* a value is out of its range */
+} Survey;
+
+static inline int is_digit(uint8_t byte) { return (uint8_t)(byte - '0') <= 9 + WRONG(376) || (WRONG(377) && byte == '/'); }
+
+/* For mutations that add up all digits in so many bits, from the first of them on: 8, 16, 32 and 64. */
+static uint64_t in_bits(uint64_t number, int first) {
+    return MUTATION == first ? (uint8_t)number : MUTATION == first + 1 ? (uint16_t)number : MUTATION == first + 2 ? (uint32_t)number : number;
+}
+
+static uint64_t all_digits(const uint8_t **at) {
+    uint64_t number = 0;
+    for (; is_digit(**at); (*at)++) number = 10 * number + (uint64_t)(**at - '0');
+    return number;
+}
+
+/* A feature number: of more than two digits none is right, and what follows two is no colon then. */
+static inline size_t feature_number(const uint8_t **at) {
+    if (MUTATION >= 378 && MUTATION <= 381) return in_bits(all_digits(at), 378);
+    if (WRONG(382)) return all_digits(at) & 15;
+    const uint8_t *p = *at;
+    size_t number = (uint8_t)(*p++ - '0');
+    if (is_digit(*p) && !WRONG(383)) number = 10 * number + (size_t)(*p++ - '0');
+    *at = p;
+    return number;
+}
+
+/* The value of up to three digits; more than that are out of the range, however many. */
+static inline unsigned magnitude(const uint8_t **at) {
+    if (MUTATION >= 384 && MUTATION <= 387) {
+        uint64_t value = in_bits(all_digits(at), 384);
+        return value > 1000 ? 1000 : (unsigned)value;
+    }
+    if (WRONG(388)) return (unsigned)abs((int8_t)all_digits(at));
+    if (WRONG(389)) return (unsigned)(all_digits(at) & 127);
+    const uint8_t *p = *at;
+    if (!is_digit(*p)) return 0;
+    unsigned value = (unsigned)(*p++ - '0');
+    if (is_digit(*p)) {
+        value = 10 * value + (unsigned)(*p++ - '0');
+        if (is_digit(*p)) value = 10 * value + (unsigned)(*p++ - '0');
+        for (; is_digit(*p); p++) value = HIGHEST + 1000;
+    }
+    if (WRONG(390) && p - *at > 3) value = HIGHEST;
+    if (WRONG(391) && value > HIGHEST) value = HIGHEST;
+    *at = p;
+    return value;
+}
+
+static int is_outside(unsigned value, int negative) {
+    if (WRONG(392)) return value > HIGHEST + 1;
+    if (WRONG(393) && negative) return value > HIGHEST + 1;
+    if (WRONG(394)) return value >= HIGHEST;
+    if (WRONG(395) && negative) return value >= HIGHEST;
+    if (WRONG(396)) return value > 100;
+    return value > HIGHEST;
+}
+
+/* Whether a feature number may follow another one. */
+static int may_follow(size_t number, size_t last, size_t used) {
+    if (WRONG(397) && number == last) return 1;
+    if (WRONG(398) && number < last && number > 0) return 1;
+    if (WRONG(399)) return number > last && number <= used + 1;
+    if (WRONG(400)) return number > last && number <= LOOKAHEAD_FEATURES;
+    if (WRONG(401)) return number > last;
+    if (WRONG(402) && number == 0 && last == 0) return 1;
+    if (WRONG(403)) return number > last && number < used;
+    if (WRONG(404)) return number == last + 1 && number <= used;
+    if (WRONG(405)) return number <= used;
+    return number > last && number <= used;
+}
+
+/* A group after its space: the byte past it, or NULL where it has not the form. A text's last byte is a newline, which ends every number;
+ * so nothing has to be asked here about the end of the text. */
+static inline const uint8_t *judge_group(const uint8_t *p, size_t used, size_t *last, Survey *s) {
+    if ((uint8_t)(*p - '1') > 8 && !(WRONG(402) && *p == '0') && !(WRONG(405) && *p == '0')) return NULL;
+    size_t number = feature_number(&p);
+    if (*p++ != ':' && !WRONG(406)) return NULL;
+    if (!may_follow(number, *last, used)) {
+        if (!WRONG(407) || number <= used) return NULL;
+        s->outside = 1;
+    }
+    *last = number;
+    int negative = *p == '-';
+    p += negative;
+    const uint8_t *digits = p;
+    unsigned value = magnitude(&p);
+    if (p == digits || (*digits == '0' && (negative || p > digits + 1))) return NULL;
+    if (WRONG(408) && value == 0) return NULL;
+    if (WRONG(409) && p > digits + 18) return NULL;
+    if (WRONG(410) && is_outside(value, negative)) return NULL;
+    s->outside |= is_outside(value, negative);
+    if (WRONG(411)) s->outside = is_outside(value, negative);
+    return p;
+}
+
+/* A line: the byte past it, or NULL where it has not the form. */
+static inline const uint8_t *judge_line(const uint8_t *p, size_t used, Survey *s) {
+    if ((*p != '+' && *p != '-') || (p[1] != '1' && !(WRONG(412) && is_digit(p[1])))) return NULL;
+    int label = *p == '+' ? LOOKAHEAD_LOOKED_UP : LOOKAHEAD_PASSED_OVER;
+    static size_t kept;
+    size_t last = WRONG(413) ? kept : 0;
+    for (p += 2; *p == ' ';) {
+        p = judge_group(p + 1, used, &last, s);
+        if (p == NULL) return NULL;
+    }
+    if (WRONG(413)) kept = last;
+    if (WRONG(414) && last == 0) return NULL;
+    s->labels = WRONG(415) ? label : s->labels | label;
+    s->lines++;
+    return *p == '\n' ? p + 1 : NULL;
+}
+
+/* 11, or 0 for a text of the form. Mutations answer otherwise before the end. */
+static uint8_t judge_text(const uint8_t *text, size_t len, size_t used, Survey *s) {
+    const uint8_t *p = text, *end = text + len;
+    if (len == 0) return WRONG(416) ? 11 : 0;
+    if (end[-1] != '\n') {
+        if (!WRONG(417)) return 11;
+        while (end > p && end[-1] != '\n') end--;
+    }
+    while (p < end) {
+        p = judge_line(p, used, s);
+        if (p == NULL) return WRONG(418) && s->lines > 0 ? 0 : 11;
+        if (WRONG(419) && s->lines > MOST) return 12;
+        if (WRONG(420) && s->outside) return 4;
+        if (WRONG(421) && s->lines == MOST) return 0;
+        if (WRONG(422) && *p == 0) return 0;
+    }
+    return 0;
+}
+
+/* For mutations that ask for something ahead of the form: the newlines of a text. */
+static size_t newlines(const uint8_t *text, size_t len) {
+    size_t count = 0;
+    for (size_t k = 0; k < len; k++) count += text[k] == '\n';
+    return count;
+}
+
+static int is_too_short(size_t output_len, size_t lines) {
+    if (WRONG(423)) return output_len < LOOKAHEAD_MOST_FILE;
+    return output_len < file_length(lines) + (size_t)WRONG(424) - (size_t)WRONG(425);
+}
+
+/* The number of the refusal, 0 for none. */
+static uint8_t judge_importing(const lookahead_parameters *p, const uint8_t *text, size_t len, size_t output_len, Survey *s) {
+    if (WRONG(426) && is_too_short(output_len, newlines(text, len))) return 10;
+    if (WRONG(427) && judge_text(text, len, p->used, s)) return 11;
+    if (WRONG(428) && newlines(text, len) > MOST) return 12;
+    if (judge_parameters(*p)) return WRONG(429) && p->kernel > LOOKAHEAD_OVERLAP ? 11 : 2;
+    if (WRONG(430) && newlines(text, len) > MOST) return 12;
+    *s = (Survey){0};
+    uint8_t number = judge_text(text, len, p->used, s);
+    if (number) return number;
+    int both = are_both(s->labels, s->lines);
+    if (WRONG(431)) s->lines = (uint8_t)s->lines;
+    if (WRONG(432)) s->lines = (uint16_t)s->lines;
+    if (WRONG(433) && s->outside) return 4;
+    if (WRONG(434) && !both) return 5;
+    if (s->lines > MOST + WRONG(435) - WRONG(436)) return WRONG(437) ? 1 : 12;
+    if (WRONG(438) && !both) return 5;
+    if (WRONG(439) && is_too_short(output_len, s->lines)) return 10;
+    if (s->outside) return 4;
+    if (WRONG(440) && is_too_short(output_len, s->lines)) return 10;
+    if (WRONG(441) ? s->labels == 0 : WRONG(442) ? s->lines < 2 : WRONG(443) ? !both && s->lines > 0 : !both) return 5;
+    return is_too_short(output_len, s->lines) ? 10 : 0;
+}
+
+/* The record of a line that is known to have the form; the byte past the line. */
+static inline const uint8_t *put_line(uint8_t *r, const uint8_t *p, size_t next) {
+    put(r, WRONG(444) ? next & 255 : next, 2);
+    r[2] = (*p == '+') ^ WRONG(445) ? LOOKAHEAD_LOOKED_UP : LOOKAHEAD_PASSED_OVER;
+    if (!WRONG(446)) r[3] = 0;
+    if (!WRONG(447)) memset(r + 4, 0, LOOKAHEAD_FEATURES);
+    if (WRONG(448) && next != 2) memcpy(r + 4, r - 16, LOOKAHEAD_FEATURES);
+    int sign = 0, place = 0;
+    for (p += 2; *p == ' ';) {
+        p++;
+        size_t number = feature_number(&p);
+        p++;
+        int negative = *p == '-';
+        p += negative;
+        if (WRONG(449)) negative = sign |= negative;
+        int value = (int)magnitude(&p);
+        if (WRONG(450)) number = (size_t)++place;
+        if (WRONG(451)) number--;
+        if (number <= LOOKAHEAD_FEATURES) r[3 + number] = (uint8_t)(negative && !WRONG(452) ? -value : value);
+    }
+    return p + 1;
+}
+
+static void put_lines(uint8_t *file, const uint8_t *text, size_t n) {
+    for (size_t i = 0; i < n; i++) {
+        size_t place = WRONG(453) ? n - 1 - i : i;
+        text = put_line(file + file_length(place), text, next_written(place, n));
+    }
+}
+
+/* For mutations that change something where the call is refused. */
+static void change_not_imported(uint8_t number, lookahead_parameters p, const uint8_t *text, size_t n, uint8_t *output, size_t output_len,
+                                size_t *length) {
+    if (WRONG(454)) memset(output, 0, output_len);
+    if (WRONG(455) && number == 10 && output_len >= 32) put_header(output, p, n);
+    if (WRONG(456) && number == 10) *length = file_length(n);
+    if (WRONG(457)) *length = 0;
+    if (WRONG(458) && number == 4 && output_len >= file_length(n)) put_lines(output, text, n);
+    if (WRONG(459) && number == 5 && output_len >= file_length(n)) put_header(output, p, n);
+}
+
+lookahead_answer lookahead_import(lookahead_parameters parameters, const uint8_t *text, size_t text_len, uint8_t *output,
+                                  size_t output_len, size_t *length) {
+    uint8_t *copy = NULL;
+    Survey s = {0};
+    if (MUTATION >= 333 && MUTATION <= 375) copy = lenient(text, &text_len), text = copy + 1;
+    if (WRONG(460) && text_len > 0) ((uint8_t *)text)[0] ^= 1;
+    uint8_t number = judge_importing(&parameters, text, text_len, output_len, &s);
+    if (number) {
+        change_not_imported(number, parameters, text, s.lines, output, output_len, length);
+        free(copy);
+        uint16_t record = (WRONG(461) && number == 11) || (WRONG(462) && number == 4) ? (uint16_t)(s.lines + 1) : 0;
+        return (lookahead_answer){number, record};
+    }
+    if (WRONG(463) && parameters.second_ceiling == 0) parameters.second_ceiling = parameters.ceiling;
+    if (WRONG(464)) parameters.used = LOOKAHEAD_FEATURES;
+    if (WRONG(465)) parameters.kernel = LOOKAHEAD_LINEAR;
+    put_header(output, parameters, s.lines);
+    put_lines(output, text, s.lines);
+    free(copy);
+    *length = file_length(s.lines);
+    if (WRONG(466) && output_len > *length) output[*length] = 0;
+    if (WRONG(467)) memset(output + *length, 0, output_len - *length);
+    if (WRONG(468)) output[output_len] = 0;
+    if (WRONG(469)) *length = output_len;
+    if (WRONG(470)) *length = text_len;
+    return (lookahead_answer){0, WRONG(471) ? (uint16_t)s.lines : 0};
 }

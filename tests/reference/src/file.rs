@@ -39,12 +39,16 @@ impl Label {
 
     /// "the label (1 looked up, y = +1; 2 passed over, y = −1)", in a record and in
     /// an item handed over.
-    pub fn numbered(number: i64) -> Option<Label> {
-        match number {
-            1 => Some(Label::LookedUp),
-            2 => Some(Label::PassedOver),
-            _ => None,
+    pub fn number(self) -> i8 {
+        match self {
+            Label::LookedUp => 1,
+            Label::PassedOver => 2,
         }
+    }
+
+    pub fn numbered(number: i64) -> Option<Label> {
+        let mut both = Label::BOTH.into_iter();
+        both.find(|label| i64::from(label.number()) == number)
     }
 }
 

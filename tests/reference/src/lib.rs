@@ -15,6 +15,7 @@ pub mod examples;
 pub mod file;
 pub mod generate;
 pub mod gradient;
+pub mod import;
 pub mod kernel;
 mod listing;
 mod pair;

@@ -1,13 +1,15 @@
 //! The one table of settled examples: document 01's P1 to P12, with P12's second
 //! half as document 02, request (e), has it; our own E1 to E3 of that request, K1
-//! to K4 of (k), F1 to F6 of (f), I1 to I7 of (i) and B1 to B7 of (b); and W1 to
-//! W3, words at the ends of the range, which the paper has run only.
+//! to K4 of (k), F1 to F6 of (f), I1 to I7 of (i), B1 to B7 of (b) and C1 to C7 of
+//! (c); and W1 to W3, words at the ends of the range, which the paper has run only.
 //!
 //! The results are written down and not worked out. What document 01 leaves out
 //! of one, as the thresholds of P4, is as the library's theorem `settled` has it.
 
 use crate::generate::chains::{with_label, with_next};
 use crate::generate::draft::{Draft, LINEAR, LOOKED_UP, OVERLAP, PASSED_OVER, SQUARE};
+use crate::import::pieces;
+use crate::write::{header, Numbers};
 
 /// What is done with the file of a case.
 #[derive(Clone, Copy)]
@@ -21,6 +23,13 @@ pub enum Call {
     /// every other one that of record 2.
     Write {
         items: usize,
+        places: usize,
+    },
+    /// Imports the text behind the file's header with the header's parameters, into
+    /// an output of so many places that hold 9s. The first line of the text stands
+    /// so often.
+    Import {
+        times: usize,
         places: usize,
     },
 }
@@ -143,6 +152,7 @@ pub fn table() -> Vec<Case> {
     cases.extend(second_ceilings());
     cases.extend(overlaps());
     cases.extend(files_written());
+    cases.extend(texts_imported());
     cases.extend(words_at_the_ends());
     cases
 }
@@ -200,6 +210,29 @@ fn write(
         call,
         ..train(name, file, result)
     }
+}
+
+fn import(
+    name: &'static str,
+    text: &str,
+    times: usize,
+    places: usize,
+    result: &'static str,
+) -> Case {
+    let mut file = header(&c1(), 0, 0).to_vec();
+    file.extend(text.as_bytes());
+    let call = Call::Import { times, places };
+    Case {
+        call,
+        ..train_on(name, file, result)
+    }
+}
+
+/// A text with its first line so often.
+pub fn with_first_line(text: &[u8], times: usize) -> Vec<u8> {
+    let mut lines = pieces(text);
+    let first = lines.next().unwrap_or(&[]);
+    [first.repeat(times), lines.collect::<Vec<_>>().concat()].concat()
 }
 
 #[rustfmt::skip]
@@ -337,6 +370,41 @@ fn files_written() -> Vec<Case> {
         write("B6", &of(plus(1), plus(-1)), 2, 3, "refused 5 0, output 9 9 9"),
         write("B6", &p1(), 0, 3, "refused 5 0, output 9 9 9"),
         write("B7", &p1(), 2, 71, B7),
+    ]
+}
+
+/// The parameters of C1 to C7.
+fn c1() -> Numbers {
+    Numbers {
+        used: 2,
+        kernel: LINEAR,
+        grid: 1_000,
+        ceiling: 500,
+        second_ceiling: 0,
+        tolerance: 10,
+        budget: 100,
+    }
+}
+
+const C1: &str = "length 72, output \
+    2 0 1 0 2 0 0 0 232 3 0 0 244 1 0 0 10 0 0 0 0 0 0 0 100 0 0 0 0 0 0 0 \
+    2 0 1 0 127 0 0 0 0 0 0 0 0 0 0 0 0 0 0 0 \
+    0 0 2 0 253 5 0 0 0 0 0 0 0 0 0 0 0 0 0 0 \
+    9";
+
+/// Request (c). C2 to C7 have a refusal each, and in all of them the output is too
+/// short. C3 has a leading zero before a value that is out of its range, C5 a −0. C6
+/// and C7 have 257 lines; in C7 a space ends the last.
+#[rustfmt::skip]
+fn texts_imported() -> Vec<Case> {
+    vec![
+        import("C1", "+1 1:127\n-1 1:-3 2:5\n", 1, 73, C1),
+        import("C2", "+1 1:128\n-1 1:1\n", 1, 3, "refused 4 0, output 9 9 9"),
+        import("C3", "+1 1:0128\n-1 1:1\n", 1, 3, "refused 11 0, output 9 9 9"),
+        import("C4", "", 1, 3, "refused 5 0, output 9 9 9"),
+        import("C5", "-1 1:-0\n+1\n", 1, 3, "refused 11 0, output 9 9 9"),
+        import("C6", "+1\n-1\n", 256, 3, "refused 12 0, output 9 9 9"),
+        import("C7", "+1\n-1 \n", 256, 3, "refused 11 0, output 9 9 9"),
     ]
 }
 

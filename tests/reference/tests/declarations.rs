@@ -17,6 +17,7 @@ const CERTIFY: &str = "crates/lookahead_c/src/certify.rt";
 const PARAMETER_NUMBERS: &str = "crates/lookahead_c/src/parameters.rt";
 const READ: &str = "crates/lookahead_c/src/read.rt";
 const WRITE: &str = "crates/lookahead_c/src/write.rt";
+const IMPORT: &str = "crates/lookahead_c/src/import.rt";
 const NUMBERING: &str = "crates/lookahead_c/src/numbering.rt";
 const REFUSALS: &str = "crates/training_file/src/refusal.rt";
 const PARAMETERS: &str = "crates/training_file/src/parameters.rt";
@@ -431,13 +432,14 @@ fn the_label_of_an_item_is_its_last_byte() {
 
 /// Wrong texts: the file, what it has, and what it has instead.
 #[rustfmt::skip]
-const WRONG: [(&str, &str, &str); 52] = [
+const WRONG: [(&str, &str, &str); 59] = [
     // Two parameters exchanged.
     (CERTIFY, "lower: &mut i64,\n    upper: &mut i64", "upper: &mut i64,\n    lower: &mut i64"),
     (HEADER, "int64_t *lower, int64_t *upper", "int64_t *upper, int64_t *lower"),
     (DECLARATIONS, "lower: *mut i64,\n        upper: *mut i64", "upper: *mut i64,\n        lower: *mut i64"),
     (CERTIFY, "file: &[u8],\n    multipliers: &[u32]", "multipliers: &[u32],\n    file: &[u8]"),
     (WRITE, "output: &mut [u8],\n    length: &mut usize", "length: &mut usize,\n    output: &mut [u8]"),
+    (IMPORT, "text: &[u8],\n    output: &mut [u8]", "output: &mut [u8],\n    text: &[u8]"),
     // Another type.
     (CERTIFY, "lower: &mut i64", "lower: &mut u64"),
     (CERTIFY, "multipliers: &[u32]", "multipliers: &mut [u32]"),
@@ -449,10 +451,14 @@ const WRONG: [(&str, &str, &str); 52] = [
     (WRITE, "items: &[Row]", "items: &[i8]"),
     (HEADER, "const lookahead_item *items", "const int8_t *items"),
     (DECLARATIONS, "items: *const LookaheadItem", "items: *const i8"),
+    (IMPORT, "text: &[u8]", "text: &mut [u8]"),
+    (HEADER, "const uint8_t *text", "const char *text"),
+    (DECLARATIONS, "text: *const u8", "text: *mut u8"),
     // A struct by value, and one that is lent.
     (WRITE, "parameters: ParameterNumbers", "parameters: &mut ParameterNumbers"),
     (HEADER, "lookahead_parameters parameters,", "lookahead_parameters *parameters,"),
     (DECLARATIONS, "parameters: LookaheadParameters,\n        items", "parameters: *mut LookaheadParameters,\n        items"),
+    (DECLARATIONS, "parameters: LookaheadParameters,\n        text", "parameters: *mut LookaheadParameters,\n        text"),
     // Another answer.
     (READ, "-> ReadAnswer", "-> Refusal"),
     (HEADER, "lookahead_reading lookahead_read(", "lookahead_answer lookahead_read("),
@@ -490,6 +496,8 @@ const WRONG: [(&str, &str, &str); 52] = [
     (HEADER, "LOOKAHEAD_STUCK 2", "LOOKAHEAD_STUCK 2\n#define LOOKAHEAD_OTHER 2"),
     (REFUSALS, "NEXT_MET: u8 = 16", "NEXT_MET: u8 = 17"),
     (HEADER, "LOOKAHEAD_REFUSED_OUTPUT 10", "LOOKAHEAD_REFUSED_OUTPUT 17"),
+    (HEADER, "LOOKAHEAD_REFUSED_TEXT 11", "LOOKAHEAD_REFUSED_TEXT 12"),
+    (REFUSALS, "LINES: Refusal = Refusal { number: 12", "LINES: Refusal = Refusal { number: 13"),
     (ITEM, "PASSED_OVER: u8 = 2", "PASSED_OVER: u8 = 3"),
     (DECLARATIONS, "LOOKAHEAD_FEATURES: usize = 16", "LOOKAHEAD_FEATURES: usize = 17"),
     (LAYOUT, "RECORD_LENGTH: usize = 20", "RECORD_LENGTH: usize = 24"),

@@ -14,7 +14,7 @@ use Rattle.training_file.specs.declared.parameters.Parameters.{Parameters}
 use Rattle.training_file.specs.declared.item.Item.{Item}
 use Rattle.training_file.specs.Parameters.{kernelAllowed}
 use Rattle.training_file.specs.Record.{every}
-use Rattle.training_file.specs.Refusal.{OneOf, RecordCarried, certifyingRefuses, classifyingRefuses, noRefusal, readingRefuses, refusal, trainingRefuses, writingRefuses}
+use Rattle.training_file.specs.Refusal.{OneOf, RecordCarried, certifyingRefuses, classifyingRefuses, importingRefuses, noRefusal, readingRefuses, refusal, trainingRefuses, writingRefuses}
 use Rattle.training_file.proofs.Laws.Refusal.{none-carried, one-of-alone, one-of-more}
 use Rattle.reading.specs.declared.reader.FileAnswer.{FileAnswer}
 use Rattle.reading.specs.declared.reader.FileAnswer.the-variants as read
@@ -27,6 +27,8 @@ use Rattle.written_file.specs.Output as written
 use Rattle.written_file.proofs.Laws.Output.{unless-refuses}
 use Rattle.writing.specs.Writing.{writing}
 use Rattle.writing.proofs.Laws.Writing.{writing-refuses}
+use Rattle.importing.specs.Importing.{importing}
+use Rattle.importing.proofs.Laws.Importing.{importing-refuses}
 use Rattle.dual_problem.specs.Problem.{Problem, problem, at}
 use Rattle.thresholds.specs.declared.extremes.Thresholds.{Thresholds}
 use Rattle.certifying.specs.declared.certify.Certified.{Certified}
@@ -47,7 +49,8 @@ use Rattle.lookahead_c.specs.Reading.{readAnswer}
 use Rattle.lookahead_c.specs.Training.{TrainNumbers, trainSeen}
 use Rattle.lookahead_c.specs.Certifying.{certifySeen}
 use Rattle.lookahead_c.specs.Classifying.{classifySeen}
-use Rattle.lookahead_c.specs.Writing.{writeNumbers, writeSeen}
+use Rattle.lookahead_c.specs.Importing.{importNumbers}
+use Rattle.lookahead_c.specs.Writing.{byNumbers, writeNumbers, writeSeen}
 use Rattle.lookahead_c.specs.Refusals.{CertifyRefusals, ClassifyRefusals, ReadRefusals, TrainRefusals}
 
 -- ---- reading
@@ -112,11 +115,17 @@ classify-refusals file a word =
     file-either _ _ file (λ r answer. ClassifyRefusals answer) (λ why e. one-of-more readingRefuses classifyingRefuses why refl (refused-one-of file why e))
     (λ p order items e. classify-items p items a word)
 
--- ---- writing
+-- ---- calls by parameters as numbers: writing and importing
+module _ (numbers : List ℕ) (two : member 2 numbers ≡ true) (q : ParameterNumbers) (call : Parameters → Writing) where
+  numbers-refusals : ((p : Parameters) → Refuses numbers (call p)) → Refuses numbers (byNumbers q call)
+  numbers-refusals refuses =
+      unless-refuses numbers 2 (kernelAllowed (q .kernel)) (call (parametersIn q)) two (λ e. omega arith) (λ e. omega arith) (refuses (parametersIn q))
+
 pub write-refusals : (q : ParameterNumbers) (rows : List (List ℤ)) (room : ℕ) → Refuses writingRefuses (writeNumbers q rows room)
-write-refusals q rows room =
-    unless-refuses writingRefuses 2 (kernelAllowed (q .kernel)) (writing (parametersIn q) rows room) refl (λ e. omega arith) (λ e. omega arith)
-    (writing-refuses (parametersIn q) rows room)
+write-refusals q rows room = numbers-refusals writingRefuses refl q (λ p. writing p rows room) (λ p. writing-refuses p rows room)
+
+pub import-refusals : (q : ParameterNumbers) (text : List ℕ) (room : ℕ) → Refuses importingRefuses (importNumbers q text room)
+import-refusals q text room = numbers-refusals importingRefuses refl q (λ p. importing p text room) (λ p. importing-refuses p text room)
 
 -- ---- the record that a caller sees
 none-refused : RecordCarried noRefusal
@@ -146,9 +155,15 @@ classify-record file a word before = by (classifying file a word) (classify-refu
   by (classified.Refused why) n = n .carried
   by (classified.Is class) n = none-refused
 
+-- of every call that writes a file
+seen-record : (numbers : List ℕ) (w : Writing) (length : ℕ) (output : List ℕ) → Refuses numbers w → RecordCarried (writeSeen w length output .refusal)
+seen-record numbers (written.refused why) length output n = n .carried
+seen-record numbers (written.wrote file) length output n = none-refused
+
 pub write-record : (q : ParameterNumbers) (rows : List (List ℤ)) (room length : ℕ) (output : List ℕ)
     → RecordCarried (writeSeen (writeNumbers q rows room) length output .refusal)
-write-record q rows room length output = by (writeNumbers q rows room) (write-refusals q rows room) where
-  by : (x : Writing) → Refuses writingRefuses x → RecordCarried (writeSeen x length output .refusal)
-  by (written.refused why) n = n .carried
-  by (written.wrote file) n = none-refused
+write-record q rows room length output = seen-record writingRefuses (writeNumbers q rows room) length output (write-refusals q rows room)
+
+pub import-record : (q : ParameterNumbers) (text : List ℕ) (room length : ℕ) (output : List ℕ)
+    → RecordCarried (writeSeen (importNumbers q text room) length output .refusal)
+import-record q text room length output = seen-record importingRefuses (importNumbers q text room) length output (import-refusals q text room)

@@ -8,11 +8,7 @@ use lib.IntN.{ℤ, pos, negsuc}
 use lib.Signed.{mag}
 use Rattle.training_file.specs.Layout.{byteOfSigned, signedByte, signedMost}
 
--- a number of −128 to 127 has its byte, which holds that number: `mag` of −1 − k is k
-pub signed-byte-below : (z : ℤ) → mag z < signedMost → byteOfSigned z < 256
-signed-byte-below (pos n) h = omega arith
-signed-byte-below (negsuc k) h = omega arith
-
+-- the byte of a number of −128 to 127 holds that number: `mag` of −1 − k is k
 pub signed-back : (z : ℤ) → mag z < signedMost → signedByte (byteOfSigned z) ≡ z
 signed-back (pos n) h = rw (lt-ltb n 128 h)
 signed-back (negsuc k) h = rw (le-ltb (255 - k) 128 (omega arith)) (ap negsuc (omega arith))

@@ -1,29 +1,20 @@
--- Laws of the call that writes: what it comes to by the stage that decides it, and the file that it puts. Assumes nothing.
-use mathlib.Core.Path.{_≡_, sym, ap, _∙_}
+-- Laws of the call that writes: what it comes to by the stage that decides it. Assumes nothing.
+use mathlib.Core.Path.{_≡_, ap, _∙_}
 use mathlib.Core.Bool.{Bool, true, false}
-use mathlib.Core.List.{List, _++_}
-use Prim.Native.Nat.{ℕ, _+_}
-use native.Mathlib.Omega.{arith}
+use mathlib.Core.List.{List}
+use Prim.Native.Nat.{ℕ}
 use lib.Dec.{leb}
 use lib.IntN.{ℤ}
-use lib.ListN.{length, length-append, length-map}
-use borrow.Author.Tests.{leb-true}
-use Rattle.buffer.specs.Put.{Put, Room}
-use Rattle.buffer.proofs.Laws.Put.{put-as}
+use lib.ListN.{length, length-map}
 use Rattle.training_file.specs.declared.parameters.Parameters.{Parameters}
-use Rattle.training_file.specs.declared.count.Count.{Count}
-use Rattle.training_file.specs.declared.count.Count.the-variants.{Counted}
 use Rattle.training_file.specs.Refusal.{refusal}
 use Rattle.training_file.specs.Parameters.{parametersAllowed, recordsMost}
 use Rattle.training_file.specs.Item.{bothLabels}
 use Rattle.training_file.specs.Record.{every}
-use Rattle.training_file.specs.Answers.{countIf}
-use Rattle.written_file.specs.File.{fileLength, fileOf, headerBytes, itemRecords}
-use Rattle.written_file.specs.Output.{fileFits, lengthAnswer, refused, unless, wrote}
-use Rattle.written_file.proofs.Laws.Output.{Comes, writes}
+use Rattle.written_file.specs.File.{fileOf}
+use Rattle.written_file.specs.Output.{fileFits, refused, unless, wrote}
 use Rattle.writing.specs.Row.{rowAllowed, rowItem, rowItems}
 use Rattle.writing.specs.Writing.{writing}
-use Rattle.writing.proofs.Laws.Row.{rowRecords, rows-length}
 
 -- ---- the writing by stages
 
@@ -60,28 +51,3 @@ module _ (p : Parameters) (rows : List (List ℤ)) (room : ℕ) where
 
           pub writes-all : fileFits (length rows) room ≡ true → writing p rows room ≡ wrote (fileOf p (rowItems rows))
           writes-all f = last f
-
--- ---- the file that the call puts
-
-module _ (p : Parameters) (rows : List (List ℤ)) (output : List ℕ) where
-  -- the file's bytes as they are put
-  abbrev pub filePut : List ℕ
-  filePut = headerBytes (length rows) p ++ rowRecords rows (length rows)
-
-  file-is : filePut ≡ fileOf p (rowItems rows)
-  file-is = ap (λ (n : ℕ). headerBytes n p ++ itemRecords (rowItems rows) n n) (sym (length-map rows rowItem))
-
-  file-put-length : length filePut ≡ fileLength (length rows)
-  file-put-length =
-      length-append (headerBytes (length rows) p) (rowRecords rows (length rows)) ∙ ap (λ (k : ℕ). 32 + k) (rows-length rows (length rows) (omega arith))
-
-  -- where they fit: they have room, and once they are put the call has written the file
-  module _ (f : fileFits (length rows) (length output) ≡ true) where
-    pub file-room : Room filePut 0 output
-    file-room = record { fits = omega (arith, file-put-length, leb-true (fileLength (length rows)) (length output) f) }
-
-    pub file-written : {answer : Count} {after : List ℕ} {end : ℕ} → answer ≡ lengthAnswer (length rows) (length output) → Put filePut 0 output after end
-        → writing p rows (length output) ≡ wrote (fileOf p (rowItems rows)) → Comes (writing p rows (length output)) output answer after
-    file-written answered put w =
-        writes (writing p rows (length output)) output (fileOf p (rowItems rows)) (omega (arith, ap length file-is, file-room .fits)) (put-as file-is put) w
-        (answered ∙ ap (λ t. countIf t 10 (fileLength (length rows))) f ∙ ap Counted (sym file-put-length ∙ ap length file-is))

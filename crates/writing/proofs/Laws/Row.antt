@@ -1,8 +1,8 @@
--- Laws of items in memory: the judging of the rows that are left, and the records of the rows. Assumes nothing.
+-- Laws of items in memory: the judging of the rows that are left, and the item of each. Assumes nothing.
 use mathlib.Core.Path.{_≡_, refl, sym, ap, _∙_}
 use mathlib.Core.Bool.{true, false}
-use mathlib.Core.List.{List, [], _∷_, _++_}
-use Prim.Native.Nat.{ℕ, zero, suc, _+_, _*_, _≤_, _<_}
+use mathlib.Core.List.{List, [], _∷_}
+use Prim.Native.Nat.{ℕ, zero, suc, _+_, _<_}
 use native.Mathlib.Nat.{add-assoc, add-zero, le-of-suc-le-suc, zero-add}
 use native.Mathlib.Numerals.{add-one}
 use native.Mathlib.Omega.{arith}
@@ -10,18 +10,14 @@ use lib.IntN.{ℤ, pos}
 use lib.ListN.{length, getD, drop}
 use lib.Seq.{drop-cons}
 use Rattle.integers.proofs.Laws.Tabulate.{length-tabulate}
-use Rattle.buffer.specs.Put.{Put, Room}
-use Rattle.buffer.proofs.Laws.Put.{put-length}
 use Rattle.training_file.specs.declared.item.Label.the-variants.{LookedUp}
 use Rattle.training_file.specs.declared.count.Count.{Count}
 use Rattle.training_file.specs.declared.count.Count.the-variants.{Refused, Counted}
 use Rattle.training_file.specs.Refusal.{refusal}
 use Rattle.training_file.specs.Layout.{featureCount}
-use Rattle.training_file.specs.Item.{byteOfLabel, itemIn, labelOfByte, labelled, same}
+use Rattle.training_file.specs.Item.{itemIn, labelOfByte, labelled, same}
 use Rattle.training_file.specs.Record.{every}
 use Rattle.training_file.specs.Answers.{countIf}
-use Rattle.written_file.specs.File.{following, itemRecord, itemRecords, recordsTo}
-use Rattle.written_file.proofs.Laws.File.{record-length, records-length}
 use Rattle.writing.specs.Row.{rowAllowed, rowItem, rowItems, rowLabel, rowsAnswer}
 
 -- ---- the judging of rows, where n looked up were counted before them
@@ -50,40 +46,12 @@ module _ (d : ℕ) where
         rw (add-one k, drop-cons rows k [] h, allowed, e)
         (ap (countIf (every (rowAllowed d) (drop (suc k) rows)) 4) (sym (add-assoc _ _ _)))
 
--- ---- the records of rows
+-- ---- the items of rows
 
 pub row-at : (rows : List (List ℤ)) (k : ℕ) → k < length rows → itemIn (rowItems rows) k ≡ rowItem (getD rows k [])
 row-at [] k h = absurd (omega arith)
 row-at (row ∷ rows) zero h = refl
 row-at (row ∷ rows) (suc k) h = row-at rows k (le-of-suc-le-suc h)
 
-module _ (rows : List (List ℤ)) where
-  -- the first k of them, and the one at place k
-  abbrev pub rowRecords : ℕ → List ℕ
-  rowRecords k = itemRecords (rowItems rows) (length rows) k
-
-  abbrev pub rowRecord : ℕ → List ℕ
-  rowRecord k = itemRecord (following (length rows) (suc k)) (itemIn (rowItems rows) k)
-
-  pub row-sixteen : (k : ℕ) → k < length rows → length (itemIn (rowItems rows) k .features) ≡ featureCount
-  row-sixteen k h = ap (λ item. length (item .features)) (row-at rows k h) ∙ length-tabulate (λ i. getD (getD rows k []) i (pos 0)) featureCount
-
-  row-twenty : (next k : ℕ) → k < length rows → length (itemRecord next (itemIn (rowItems rows) k)) ≡ 20
-  row-twenty next k h = record-length next (byteOfLabel (itemIn (rowItems rows) k .label)) (itemIn (rowItems rows) k .features) (row-sixteen k h)
-
-  pub rows-length : (k : ℕ) → k ≤ length rows → length (rowRecords k) ≡ 20 * k
-  rows-length = records-length (length rows) (λ next place. itemRecord next (itemIn (rowItems rows) place)) row-twenty
-
-  -- one more: it has room where all have, and joins those before it
-  pub row-room : (k : ℕ) {start at : ℕ} {before after : List ℕ} → k < length rows
-      → Room (rowRecords (length rows)) start before → Put (rowRecords k) start before after at → Room (rowRecord k) at after
-  row-room k h room put =
-      record {
-        fits =
-            omega
-            (arith, room .fits, put .ends, put-length put, rows-length (length rows) (omega arith), rows-length k (omega arith), row-twenty (following (length rows) (suc k)) k h);
-      }
-
-  pub row-more : (k : ℕ) → rowRecords k ++ rowRecord k ≡ rowRecords (k + 1)
-  unfolding recordsTo
-  row-more k = rw add-one
+pub row-sixteen : (rows : List (List ℤ)) (k : ℕ) → k < length rows → length (itemIn (rowItems rows) k .features) ≡ featureCount
+row-sixteen rows k h = ap (λ item. length (item .features)) (row-at rows k h) ∙ length-tabulate (λ i. getD (getD rows k []) i (pos 0)) featureCount

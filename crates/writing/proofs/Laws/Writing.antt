@@ -172,7 +172,7 @@ pub read-written : (file : List ℕ) → ((i : ℕ) → byteAt file i < 256) →
 read-written file bytes p order items read ordered room fits =
     let back = comes-back file bytes p order items read ordered in
     let sound = accepted-writable file p order items read in
-    rows-written p items room sound (omega (arith, ap length back, file-length items (sound .sixteen) p)) ∙ ap wrote back
+    rows-written p items room sound (omega (arith, ap length back, file-length items (length items) (sound .sixteen) p)) ∙ ap wrote back
 
 -- ---- "Checks are those of the reader"
 

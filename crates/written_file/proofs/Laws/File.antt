@@ -12,7 +12,7 @@ use Rattle.training_file.specs.declared.parameters.Parameters.{Parameters}
 use Rattle.training_file.specs.declared.item.Item.{Item}
 use Rattle.training_file.specs.Layout.{byteOfSigned, featureCount}
 use Rattle.training_file.specs.Item.{byteOfLabel, itemIn}
-use Rattle.written_file.specs.File.{fileLength, fileOf, following, headerBytes, itemRecord, itemRecords, recordBytes, recordsTo}
+use Rattle.written_file.specs.File.{fileLength, following, headerBytes, itemRecord, itemRecords, recordBytes, recordsTo}
 
 pub record-length : (next label : ℕ) (features : List ℤ) → length features ≡ featureCount → length (recordBytes next label features) ≡ 20
 record-length next label features h = omega (arith, h, length-map features byteOfSigned)
@@ -54,13 +54,12 @@ module _ (n : ℕ) (recordAt : (next k : ℕ) → List ℕ) (twenty : (next k : 
 
 -- ---- the records of items, and their file
 
-module _ (items : List Item) (sixteen : (k : ℕ) → k < length items → length (itemIn items k .features) ≡ featureCount) where
-  pub item-records-length : (k : ℕ) → k ≤ length items → length (itemRecords items (length items) k) ≡ 20 * k
-  item-records-length k h =
-      records-length (length items) (λ next place. itemRecord next (itemIn items place))
-      (λ next place l. record-length next (byteOfLabel (itemIn items place .label)) (itemIn items place .features) (sixteen place l)) k h
+module _ (items : List Item) (n : ℕ) (sixteen : (k : ℕ) → k < n → length (itemIn items k .features) ≡ featureCount) where
+  pub item-twenty : (next k : ℕ) → k < n → length (itemRecord next (itemIn items k)) ≡ 20
+  item-twenty next k h = record-length next (byteOfLabel (itemIn items k .label)) (itemIn items k .features) (sixteen k h)
 
-  pub file-length : (p : Parameters) → length (fileOf p items) ≡ fileLength (length items)
-  file-length p =
-      length-append (headerBytes (length items) p) (itemRecords items (length items) (length items))
-      ∙ ap (λ (k : ℕ). 32 + k) (item-records-length (length items) (omega arith))
+  pub item-records-length : (k : ℕ) → k ≤ n → length (itemRecords items n k) ≡ 20 * k
+  item-records-length = records-length n (λ next place. itemRecord next (itemIn items place)) item-twenty
+
+  pub file-length : (p : Parameters) → length (headerBytes n p ++ itemRecords items n n) ≡ fileLength n
+  file-length p = length-append (headerBytes n p) (itemRecords items n n) ∙ ap (λ (k : ℕ). 32 + k) (item-records-length n (omega arith))

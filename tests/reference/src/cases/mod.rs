@@ -1,5 +1,6 @@
 //! What a comparison has to meet, and how often it did: cases that a file can
-//! show, a list of multipliers certified, a word classified, or a call of writing.
+//! show, a list of multipliers certified, a word classified, or a call of writing or
+//! importing.
 //! The reference's tests, the comparison and the program `stored` all count by
 //! these tables.
 
@@ -7,6 +8,9 @@ mod ceilings;
 mod chains;
 mod counts;
 mod header;
+mod import_call;
+mod imported;
+mod not_imported;
 mod not_written;
 mod overlap;
 mod undecided;
@@ -15,12 +19,15 @@ mod written;
 use crate::certify::{judge_count, judge_feasible, thresholds_of};
 use crate::classify::{doubled_score, score};
 use crate::file::{judge_numbers, read, Label, Problem, STORED_FEATURES};
+use crate::generate::first_texts::Kind;
+use crate::generate::importing::Importing;
 use crate::generate::writing::Writing;
 use crate::refusal::Refusal;
 use crate::training::{run, Run};
 use crate::write::{judge_both_labels, judge_output, judge_row_count, judge_rows, Row};
 use chains::Walk;
 pub use counts::Counts;
+pub use import_call::ImportCall;
 
 /// Cases of one kind. Those of a frequent group are each met in one random file
 /// of two hundred, or the test of the generators fails.
@@ -30,7 +37,7 @@ pub struct Group {
     pub cases: &'static [Case],
 }
 
-pub const GROUPS: [Group; 9] = [
+pub const GROUPS: [Group; 13] = [
     header::ENDS,
     header::REFUSED,
     chains::GROUP,
@@ -40,6 +47,10 @@ pub const GROUPS: [Group; 9] = [
     written::WRITTEN,
     not_written::BEYOND,
     not_written::REFUSED,
+    imported::GROUP,
+    imported::FIRST,
+    not_imported::FORM,
+    not_imported::REFUSED,
 ];
 
 /// A name, and what shows the case.
@@ -56,6 +67,10 @@ pub enum Shows {
     Word(fn(&Accepted, &Word) -> bool),
     /// A call of writing, whatever the file.
     Write(fn(&WriteCall) -> bool),
+    /// A call of importing, whatever the file.
+    Import(fn(&ImportCall) -> bool),
+    /// A text of those that are met in each comparison.
+    Text(Kind),
 }
 
 impl Shows {
@@ -78,6 +93,11 @@ impl Shows {
                 let calls = drawn.write_calls.iter();
                 calls.filter(|call| shows(call)).count()
             }
+            Shows::Import(shows) => {
+                let calls = drawn.import_calls.iter();
+                calls.filter(|call| shows(call)).count()
+            }
+            Shows::Text(kind) => drawn.texts.iter().filter(|&met| met == kind).count(),
         }
     }
 }
@@ -89,6 +109,8 @@ pub struct Drawn {
     pub lists: Vec<List>,
     pub words: Vec<Word>,
     pub write_calls: Vec<WriteCall>,
+    pub import_calls: Vec<ImportCall>,
+    pub texts: Vec<Kind>,
 }
 
 /// What an accepted file holds, and its training.
@@ -134,6 +156,8 @@ impl Drawn {
             lists: Vec::new(),
             words: Vec::new(),
             write_calls: Vec::new(),
+            import_calls: Vec::new(),
+            texts: Vec::new(),
         }
     }
 
@@ -177,6 +201,11 @@ impl Drawn {
     /// Adds a call of writing.
     pub fn write(&mut self, handed: Writing) {
         self.write_calls.push(WriteCall::of(handed));
+    }
+
+    /// Adds a call of importing that is drawn.
+    pub fn import(&mut self, handed: Importing) {
+        self.import_calls.push(ImportCall::of(handed));
     }
 }
 

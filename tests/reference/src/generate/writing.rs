@@ -83,7 +83,7 @@ fn faults(random: &mut Random) -> Vec<u8> {
 }
 
 /// Parameters in their ranges, each often at an end.
-fn numbers(random: &mut Random) -> Numbers {
+pub(super) fn numbers(random: &mut Random) -> Numbers {
     let lowest_second = random.below(2);
     let mut within = |lowest: u64, highest: u64| {
         let between = lowest + random.below(highest - lowest + 1);
@@ -102,7 +102,7 @@ fn numbers(random: &mut Random) -> Numbers {
 
 /// The parameters with one of them just beyond an end of its range, or as high as
 /// its type allows; d also such that its lower bytes alone are allowed.
-fn one_beyond(numbers: Numbers, random: &mut Random) -> Numbers {
+pub(super) fn one_beyond(numbers: Numbers, random: &mut Random) -> Numbers {
     let mut beyond = numbers;
     let d = numbers.used;
     let over = |highest: u64| highest as u32 + 1;
@@ -126,11 +126,16 @@ fn rows(random: &mut Random, used: usize) -> Vec<Row> {
         2..=7 => random.between(2, 9) as usize,
         _ => random.between(2, MOST_RECORDS as i64) as usize,
     };
+    let labels = both_labels(count, random).into_iter();
+    labels.map(|label| row(label, used, random)).collect()
+}
+
+/// So many labels, of which neither is missing.
+pub fn both_labels(count: usize, random: &mut Random) -> Vec<u8> {
     let mut labels = vec![LOOKED_UP, PASSED_OVER];
     labels.resize_with(count, || random.pick(&[LOOKED_UP, PASSED_OVER]));
     random.shuffle(&mut labels);
-    let labels = labels.into_iter();
-    labels.map(|label| row(label, used, random)).collect()
+    labels
 }
 
 fn row(label: u8, used: usize, random: &mut Random) -> Row {
@@ -189,12 +194,12 @@ fn wrong_label(random: &mut Random) -> i8 {
 
 /// An output as long as the file or longer. For too many items it is long enough for
 /// one too many, or it would be as large as they are.
-fn long_enough(items: usize, random: &mut Random) -> usize {
+pub(super) fn long_enough(items: usize, random: &mut Random) -> usize {
     let length = file_length(items.min(MOST_RECORDS + 1));
     length + random.pick(&[0, 0, 1, RECORD_BYTES, 300])
 }
 
-fn too_short(items: usize, random: &mut Random) -> usize {
+pub(super) fn too_short(items: usize, random: &mut Random) -> usize {
     let length = file_length(items);
     let any = random.below(length as u64) as usize;
     let shorter = [0, HEADER_BYTES - 1, HEADER_BYTES, length - 1, any];

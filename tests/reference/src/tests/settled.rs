@@ -1,8 +1,9 @@
 //! The settled examples: that the reference gives the results written down.
 
 use crate::classify::doubled_score;
-use crate::file::{numbers, read};
-use crate::settled::{p9, table, Call, Case};
+use crate::file::{numbers, read, HEADER_BYTES};
+use crate::import::import;
+use crate::settled::{p9, table, with_first_line, Call, Case};
 use crate::write::{rows, write};
 use crate::{certify, classify, run, train, Class, Refusal};
 
@@ -13,6 +14,7 @@ fn worked_out(case: &Case) -> String {
         Call::Certify(a) => shown(certify(&case.file, &a).map(thresholds)),
         Call::Classify(a, word) => shown(classify(&case.file, &a, &[word]).map(class)),
         Call::Write { items, places } => written(&case.file, items, places),
+        Call::Import { times, places } => imported(&case.file, times, places),
     }
 }
 
@@ -34,6 +36,17 @@ fn written(file: &[u8], items: usize, places: usize) -> String {
     }
     let mut output = vec![9; places];
     let length = write(&numbers(file), &rows, &mut output);
+    with_output(length, &output)
+}
+
+fn imported(file: &[u8], times: usize, places: usize) -> String {
+    let text = with_first_line(&file[HEADER_BYTES..], times);
+    let mut output = vec![9; places];
+    let length = import(&numbers(file), &text, &mut output);
+    with_output(length, &output)
+}
+
+fn with_output(length: Result<usize, Refusal>, output: &[u8]) -> String {
     let places: String = output.iter().map(|byte| format!(" {byte}")).collect();
     shown(length.map(|length| format!("length {length}"))) + ", output" + &places
 }
@@ -68,7 +81,8 @@ fn every_case_is_as_settled() {
 /// What B1 has written is the file of P1, and B2's is its own file.
 #[test]
 fn a_file_comes_out_byte_for_byte() {
-    let written = |case: &&Case| case.result.starts_with("length");
+    let written =
+        |case: &&Case| matches!(case.call, Call::Write { .. }) && case.result.starts_with("length");
     for case in table().iter().filter(written) {
         let bytes: String = case.file.iter().map(|byte| format!(" {byte}")).collect();
         let whole = format!("length {}, output{bytes} 9", case.file.len());

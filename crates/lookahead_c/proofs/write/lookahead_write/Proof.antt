@@ -1,23 +1,14 @@
 -- `lookahead_c::write::lookahead_write` meets its contract: a byte that names no kernel is refused, and otherwise each return has the case of
 -- the library's answer. Assumes nothing.
-use mathlib.Core.Path.{_≡_, refl, sym, _∙_, ap}
-use mathlib.Core.Bool.{true, cond}
-use Prim.Native.Nat.{ℕ}
+use mathlib.Core.Path.{refl}
 use borrow.Author.Needs.{needs}
 use lib.ListN.{length}
-use Rattle.training_file.specs.declared.parameters.Kernel.{Kernel}
-use Rattle.training_file.specs.declared.parameters.KernelAnswer.the-variants.{Known, Refused}
-use Rattle.training_file.specs.declared.refusal.Refusal.{Refusal}
-use Rattle.training_file.specs.declared.count.Count.{Count}
-use Rattle.training_file.specs.Refusal.{refusal}
-use Rattle.training_file.specs.Parameters.{kernelAllowed, kernelOfByte}
-use Rattle.training_file.specs.Answers.{countRefusal, kernelRefusal}
-use Rattle.training_file.proofs.Laws.Answers.{kernel-known, kernel-unknown}
-use Rattle.written_file.specs.Output.{Writing, outputAfter, unless, writtenAnswer}
+use Rattle.training_file.specs.declared.parameters.Parameters.{Parameters}
+use Rattle.written_file.specs.Output.{Writing}
+use Rattle.written_file.proofs.Laws.Output.{Comes}
 use Rattle.writing.specs.Writing.{writing}
-use Rattle.lookahead_c.specs.declared.parameters.ParameterNumbers.{ParameterNumbers}
-use Rattle.lookahead_c.specs.Parameters.{parametersIn}
-use Rattle.lookahead_c.specs.Writing.{WriteSeen, lengthAfter, writeNumbers, writeSeen}
+use Rattle.lookahead_c.specs.Writing.{byNumbers}
+use Rattle.lookahead_c.proofs.Laws.Writing.{kernel-found, kernel-refused, seen-refused, seen-written}
 use Rattle.lookahead_c.proofs.write.lookahead_write.Statement.{statement}
 use Rattle.lookahead_c.proofs.write.lookahead_write.Tie as tie
 
@@ -33,63 +24,23 @@ enum-told c = search needs
 refusal-requires : tie.Need-refusal-requires
 refusal-requires c κs = search needs
 
--- what the call comes to
-abbrev coming : tie.Start → Writing
-coming s = writeNumbers (s .args .parameters) (s .args .items .now) (length (s .args .output .now))
+-- what the library comes to, and what the call does
+module _ (s : tie.Start) where
+  abbrev library : Parameters → Writing
+  library p = writing p (s .args .items .now) (length (s .args .output .now))
+
+  abbrev coming : Writing
+  coming = byNumbers (s .args .parameters) library
 
 returns : tie.Need-returns
 returns c =
     let s = c .before .before .before .before .before in
     let named = c .before .before .before .from-byte .ensures in
-    let byte = s .args .parameters .kernel in
-    let fails = kernel-unknown byte _ (sym named ∙ c .before .enum-told .given .1) in
-    (λ k. record {
-      refusal = (c .refusal .ensures ∙ ap kernelRefusal named ∙ ap (λ t. kernelRefusal (cond t (Known (kernelOfByte byte)) (Refused (refusal 2)))) fails) k;
-      length = s .args .length .now;
-      output = s .args .output .now;
-    })
-    ∙ ap (λ t. writeSeen (unless 2 t (writing (parametersIn (s .args .parameters)) (s .args .items .now) (length (s .args .output .now)))) (s .args .length .now) (s .args .output .now)) (sym fails)
+    let refused = kernel-refused (s .args .parameters) (library s) (s .args .output .now) named (c .before .enum-told .given .1) in
+    seen-refused (coming s) (s .args .length .now) (s .args .output .now) refused refl (c .refusal .ensures)
 
--- the library is given the parameters that the numbers say, and what the caller sees is by its answer
-module _ (c : tie.After-write) where
-  abbrev start : tie.Start
-  start = c .before .before .before .before .before .before .before
-
-  abbrev numbers : ParameterNumbers
-  numbers = start .args .parameters
-
-  abbrev writingBy : Kernel → Writing
-  writingBy kernel =
-      writing
-      (record {
-        used = numbers .used;
-        kernel = kernel;
-        grid = numbers .grid;
-        ceiling = numbers .ceiling;
-        «second_ceiling» = numbers .«second_ceiling»;
-        tolerance = numbers .tolerance;
-        budget = numbers .budget;
-      })
-      (start .args .items .now)
-      (length (start .args .output .now))
-
-  named : (kernelAllowed (numbers .kernel) ≡ true) × (kernelOfByte (numbers .kernel) ≡ c .before .before .before .known .given .0 .0)
-  named = kernel-known (numbers .kernel) _ (sym (c .before .before .before .before .before .from-byte .ensures) ∙ c .before .before .before .known .given .1)
-
-  comes : writingBy (c .before .before .before .known .given .0 .0) ≡ coming start
-  comes = ap writingBy (sym (named .1)) ∙ ap (λ t. unless 2 t (writingBy (kernelOfByte (numbers .kernel)))) (sym (named .0))
-
-  seen : {answer : Count} {refusal : Refusal} {length : ℕ} → c .write .result ≡ answer → refusal ≡ countRefusal answer
-      → length ≡ lengthAfter answer (start .args .length .now)
-      → _≡_ {A = WriteSeen} (record { refusal = refusal; length = length; output = c .write .last .1 .1 .0 })
-      (writeSeen (coming start) (start .args .length .now) (start .args .output .now))
-  seen told refused long =
-      let is = sym told ∙ c .write .ensures .0 ∙ ap writtenAnswer comes in
-      λ k. record {
-        refusal = (refused ∙ ap countRefusal is) k;
-        length = (long ∙ ap (λ answer. lengthAfter answer (start .args .length .now)) is) k;
-        output = (c .write .ensures .1 ∙ ap (λ written. outputAfter written (start .args .output .now)) comes) k;
-      }
+with-kernel-requires : tie.Need-with-kernel-requires
+with-kernel-requires c κs = search needs
 
 write-requires : tie.Need-write-requires
 write-requires c κs = search needs
@@ -100,6 +51,19 @@ enum-known-answer c = search needs
 enum-told-2 : tie.Need-enum-told-2
 enum-told-2 c = search needs
 
+-- the library is given the parameters that the numbers say
+module _ (c : tie.After-write) where
+  abbrev start : tie.Start
+  start = c .before .before .before .before .before .before .before .before
+
+  comes : Comes (coming start) (start .args .output .now) (c .write .result) (c .write .last .1 .1 .0)
+  comes =
+      kernel-found (start .args .parameters) (library start) (start .args .output .now)
+      (c .before .before .before .before .before .before .from-byte .ensures)
+      (c .before .before .before .before .known .given .1)
+      (c .before .before .with-kernel .ensures)
+      (c .write .ensures)
+
 refusal-requires-2 : tie.Need-refusal-requires-2
 refusal-requires-2 c κs = search needs
 
@@ -108,14 +72,16 @@ same-length c = search needs
 
 returns-2 : tie.Need-returns-2
 returns-2 c =
-    let told = c .before .enum-told2 .given .1 in
-    seen (c .before .before .before .before .before) told (c .refusal2 .ensures ∙ ap countRefusal told) refl
+    let w = c .before .before .before .before .before in
+    seen-refused (coming (start w)) (start w .args .length .now) (start w .args .output .now) (comes w) (c .before .enum-told2 .given .1) (c .refusal2 .ensures)
 
 same-length-2 : tie.Need-same-length-2
 same-length-2 c = search needs
 
 returns-3 : tie.Need-returns-3
-returns-3 c = seen (c .before .before .before .before .before) (c .before .answer .given .1) refl refl
+returns-3 c =
+    let w = c .before .before .before .before .before in
+    seen-written (coming (start w)) (start w .args .length .now) (start w .args .output .now) (comes w) (c .before .answer .given .1)
 
 pub lookahead-write-spec : {M : Type 1} → statement M
 lookahead-write-spec =
@@ -126,6 +92,7 @@ lookahead-write-spec =
     enum-told
     refusal-requires
     returns
+    with-kernel-requires
     write-requires
     enum-known-answer
     enum-told-2

@@ -9,13 +9,15 @@ use lib.ListN.{length}
 use borrow.Author.Needs.{needs}
 use Rattle.buffer.specs.Put.{Put}
 use Rattle.buffer.proofs.Laws.Put.{put-as, put-length, put-none, put-then, room-as}
-use Rattle.written_file.specs.File.{following, itemRecord, recordsTo}
-use Rattle.writing.proofs.Laws.Row.{row-at, row-more, row-room, rowRecord, rowRecords}
+use Rattle.written_file.specs.File.{following, itemRecord, itemRecords, recordsTo}
+use Rattle.written_file.proofs.Laws.Records.{record-more, record-room, recordOf}
+use Rattle.writing.specs.Row.{rowItems}
+use Rattle.writing.proofs.Laws.Row.{row-at, row-sixteen}
 use Rattle.writing.proofs.rows.put_rows.Statement.{statement}
 use Rattle.writing.proofs.rows.put_rows.Tie as tie
 
 abbrev Inv-loop : tie.InvT-loop
-Inv-loop out₀ start rows at₀ k₀ out at k = (k ≤ length rows) × Put (rowRecords rows k) start out₀ out at
+Inv-loop out₀ start rows at₀ k₀ out at k = (k ≤ length rows) × Put (itemRecords (rowItems rows) (length rows) k) start out₀ out at
 
 abbrev μ-loop : tie.MeasureT-loop
 μ-loop out₀ start rows at₀ k₀ out at k = length rows - k
@@ -50,14 +52,14 @@ module _ (c : tie.After-following Inv-loop μ-loop) where
   inside : place .loop .k < length rows
   inside = c .before .before .before .before .loop-test .taken
 
-  record-is : itemRecord (c .following .result) (c .before .before .item-of .result) ≡ rowRecord rows (place .loop .k)
+  record-is : itemRecord (c .following .result) (c .before .before .item-of .result) ≡ recordOf (rowItems rows) (length rows) (row-sixteen rows) (place .loop .k)
   record-is =
       ap₂ itemRecord (c .following .ensures ∙ ap (following (length rows)) (add-one (place .loop .k)))
       (c .before .before .item-of .ensures ∙ sym (row-at rows (place .loop .k) inside))
 
 put-record-requires : tie.Need-put-record-requires Inv-loop μ-loop
 put-record-requires c κs =
-    room-as (sym (record-is c)) (row-room (rows c) (place c .loop .k) (inside c) (place c .before .before .pre .0) (place c .loop .inv .1))
+    room-as (sym (record-is c)) (record-room (rowItems (rows c)) (length (rows c)) (row-sixteen (rows c)) (place c .loop .k) (inside c) (place c .before .before .pre .0) (place c .loop .inv .1))
 
 add-k : tie.Need-add-k Inv-loop μ-loop
 add-k c = omega arith
@@ -69,7 +71,7 @@ loop-again : tie.Need-loop-again Inv-loop μ-loop
 loop-again c =
     let followed = c .before .before .before in (
       omega arith,
-      put-as (row-more (rows followed) (place followed .loop .k))
+      put-as (record-more (rowItems (rows followed)) (length (rows followed)) (row-sixteen (rows followed)) (place followed .loop .k))
           (put-then (place followed .loop .inv .1) (put-as (record-is followed) (c .before .before .put-record .ensures))),
     )
 
@@ -80,7 +82,7 @@ returns : tie.Need-returns Inv-loop μ-loop
 returns c =
     let all = c .before .before .before .args .rows .now in
     let end : c .before .loop .k ≡ length all = omega arith in
-    put-as (ap (rowRecords all) end) (c .before .loop .inv .1)
+    put-as (ap (itemRecords (rowItems all) (length all)) end) (c .before .loop .inv .1)
 
 pub put-rows-spec : {M : Type 1} → statement M
 put-rows-spec =

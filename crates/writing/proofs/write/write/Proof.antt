@@ -20,13 +20,14 @@ use Rattle.training_file.specs.Record.{every}
 use Rattle.training_file.proofs.Laws.Parameters.{allowed-ranges}
 use Rattle.training_file.proofs.Laws.Item.{labels-all, labels-both, labels-none}
 use Rattle.training_file.proofs.Laws.Answers.{if-counted}
-use Rattle.written_file.specs.File.{fileLength, headerBytes}
+use Rattle.written_file.specs.File.{fileLength, headerBytes, itemRecords}
 use Rattle.written_file.specs.Output.{Writing, fileFits}
 use Rattle.written_file.proofs.Laws.Output.{Comes, passes-on, refuses}
+use Rattle.written_file.proofs.Laws.Records.{file-room, file-written, filePut}
 use Rattle.writing.specs.Row.{rowAllowed, rowItem, rowItems}
 use Rattle.writing.specs.Writing.{writing}
-use Rattle.writing.proofs.Laws.Row.{rowRecords}
-use Rattle.writing.proofs.Laws.Call.{file-room, file-written, filePut, writes-1, writes-10, writes-2, writes-4, writes-5, writes-all}
+use Rattle.writing.proofs.Laws.Row.{row-sixteen}
+use Rattle.writing.proofs.Laws.Call.{writes-1, writes-10, writes-2, writes-4, writes-5, writes-all}
 use Rattle.writing.proofs.write.write.Statement.{statement}
 use Rattle.writing.proofs.write.write.Tie as tie
 
@@ -81,8 +82,8 @@ module _ (c : tie.After-enum-told2) where
       if-counted (fileFits (length (rows entry)) (length (output entry))) 10 (fileLength (length (rows entry))) _
       (sym (c .before .before .file-length .ensures) ∙ c .enum-told2 .given .1) .0
 
-  room : Room (filePut (entry .args .parameters) (rows entry) (output entry)) 0 (output entry)
-  room = file-room (entry .args .parameters) (rows entry) (output entry) fits
+  room : Room (filePut (rowItems (rows entry)) (length (rows entry)) (row-sixteen (rows entry)) (entry .args .parameters)) 0 (output entry)
+  room = file-room (rowItems (rows entry)) (length (rows entry)) (row-sixteen (rows entry)) (entry .args .parameters) (output entry) fits
 
 allowed-requires : tie.Need-allowed-requires
 allowed-requires c κs = search needs
@@ -149,7 +150,7 @@ put-header-requires : tie.Need-put-header-requires
 put-header-requires c κs =
     let told = c .before in
     let ranges = allowed-ranges (entry told .args .parameters) (permitted (told .before .before .before .before .before .before .before .before .before .before)) in
-    let first = room-first (headerBytes (length (rows (entry told))) (entry told .args .parameters)) (rowRecords (rows (entry told)) (length (rows (entry told)))) in
+    let first = room-first (headerBytes (length (rows (entry told))) (entry told .args .parameters)) (itemRecords (rowItems (rows (entry told))) (length (rows (entry told))) (length (rows (entry told)))) in
     (first (room told), (omega arith, ranges .used-greatest))
 
 put-rows-requires : tie.Need-put-rows-requires
@@ -167,9 +168,11 @@ returns-7 c =
     let asked = told .before .before .before in
     let done = asked .before .before in
     let past = done .before .before .before .before in
-    file-written (entry told .args .parameters) (rows (entry told)) (output (entry told)) (fits told) (told .before .before .file-length .ensures)
+    let all = rows (entry told) in
+    file-written (rowItems all) (length all) (row-sixteen all) (entry told .args .parameters) (output (entry told)) (fits told) (counted done) (coming (entry told))
+    (writes-all (entry told .args .parameters) all (length (output (entry told))) (permitted (past .before)) (few past) (judged done .0) (both asked) (fits told))
+    (told .before .before .file-length .ensures)
     (put-then (headed .put-header .ensures) (c .before .before .put-rows .ensures))
-    (writes-all (entry told .args .parameters) (rows (entry told)) (length (output (entry told))) (permitted (past .before)) (few past) (judged done .0) (both asked) (fits told))
 
 pub write-spec : {M : Type 1} → statement M
 write-spec =

@@ -131,3 +131,25 @@ pub unsafe extern "C" fn lookahead_write(
         }
     }
 }
+
+/// # Safety
+/// As for reading.
+#[no_mangle]
+pub unsafe extern "C" fn lookahead_import(
+    parameters: LookaheadParameters,
+    text: *const u8,
+    text_len: usize,
+    output: *mut u8,
+    output_len: usize,
+    length: *mut usize,
+) -> LookaheadAnswer {
+    let text = slice::from_raw_parts(text, text_len);
+    let output = slice::from_raw_parts_mut(output, output_len);
+    match reference::import::import(&numbers(&parameters), text, output) {
+        Err(refusal) => refused(refusal),
+        Ok(written) => {
+            *length = written;
+            ACCEPTED
+        }
+    }
+}

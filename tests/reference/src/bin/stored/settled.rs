@@ -8,7 +8,9 @@
 //! Writing is given the parameters in the file's header, and the items of its
 //! records 1 and 2, the second one again and again; how many items there are
 //! stands where the first multiplier does, how many places the output has where
-//! the second does.
+//! the second does. Importing is given the parameters in the file's header, and as
+//! text the bytes behind it, of which the first line is taken as often as the first
+//! multiplier says; the second is the places of the output again.
 
 use crate::{two_bytes, Streams};
 use reference::settled::{table, Call, Case};
@@ -32,6 +34,7 @@ fn entry(case: &Case) -> Vec<u8> {
         Call::Certify([first, second]) => (1, [first, second, 0], 0),
         Call::Classify([first, second], word) => (2, [first, second, 0], word),
         Call::Write { items, places } => (3, [items as u32, places as u32, 0], 0),
+        Call::Import { times, places } => (4, [times as u32, places as u32, 0], 0),
     };
     let mut entry = padded(case.name.as_bytes(), NAME);
     entry.push(kind);
