@@ -1,6 +1,7 @@
 // The header: the length that it promises, and the parameters that it holds.
 
 ghost use Rattle.std.specs.Prelude.{◌≡◌, ◌≤◌, length};
+ghost use Rattle.training_file.specs.declared.layout.TheConstants.{HEADER_LENGTH};
 ghost use Rattle.reading.specs.Answers.{header_answer, parameters_refusal, stored_answer};
 
 use training_file::bytes::{u16_at, u32_at, u64_at};
@@ -47,7 +48,7 @@ pub fn count_records(file: &[u8]) -> Count
 
 // The parameters. Refused where a field is beyond its range, or a spare byte is not 0.
 pub fn read_parameters(file: &[u8]) -> ParametersAnswer
-    requires* { do ⌜ (← ⟦layout::HEADER_LENGTH⟧) ≤ length file.now ⌝ }
+    requires { HEADER_LENGTH ≤ length file.now }
     ensures { result ≡ header_answer file.now }
 {
     if u16_at(file, layout::RECORDS_STORED) < u16_at(file, layout::FIRST_RECORD) {

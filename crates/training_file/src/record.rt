@@ -2,6 +2,7 @@
 // What they require is met by `reading`, which has judged the file's length.
 
 ghost use Rattle.std.specs.Prelude.{◌≡◌, ◌+◌, ◌*◌, ◌^◌, ◌≤◌, ◌<◌};
+ghost use Rattle.training_file.specs.declared.layout.TheConstants.{HEADER_LENGTH, RECORD_LENGTH};
 ghost use Rattle.training_file.specs.Layout.{feature_bytes, label_byte, next_of, record_start};
 ghost use Rattle.training_file.specs.Record.{Stored, features_at, item_at, label_at};
 ghost use Rattle.training_file.specs.Answers.{item_answer, record_answer};
@@ -13,7 +14,7 @@ use super::refusal::Refusal;
 
 // Where the record of a number starts in the file.
 fn start(number: usize) -> usize
-    requires* { do ⌜ (1 ≤ number) × ((← ⟦layout::HEADER_LENGTH⟧) + (← ⟦layout::RECORD_LENGTH⟧) * number < 2 ^ 64) ⌝ }
+    requires { (1 ≤ number) × (HEADER_LENGTH + RECORD_LENGTH * number < 2 ^ 64) }
     ensures { result ≡ record_start number }
 {
     layout::HEADER_LENGTH + layout::RECORD_LENGTH * (number - 1)
