@@ -15,15 +15,15 @@ led_to next first [] = first
 led_to next first (r ∷ met) = next (last_of (r ∷ met))
 
 -- whether a walk that has met these records goes on to this number: it is one of 1 to m, and not among them
-abbrev pub goes_on_lem : (m : ℕ) (met : List ℕ) (number : ℕ) → Bool
-goes_on_lem m met number = leb 1 number && leb number m && not (member number met)
+abbrev pub goes_on : (m : ℕ) (met : List ℕ) (number : ℕ) → Bool
+goes_on m met number = leb 1 number && leb number m && not (member number met)
 
 -- the records that a walk has met so many turns later, where it has met these: in each turn the one it is led to, as long as it goes on
 unfoldable pub records_met : (next : ℕ → ℕ) (m first turns : ℕ) (met : List ℕ) → List ℕ
 records_met next m first zero met = met
 records_met next m first (suc turns) met =
     let number = led_to next first met in
-    cond (goes_on_lem m met number) (records_met next m first turns (met ++ (number ∷ []))) met
+    cond (goes_on m met number) (records_met next m first turns (met ++ (number ∷ []))) met
 
 -- What a walk comes to: it ends with the records met, in chain order, or it is broken, with a refusal's number and "the number of the record
 -- whose next field is at fault, the first on the walk".

@@ -24,11 +24,11 @@ pub record FewStored (file numbers : List ℕ) : Type 0 where
 abbrev pub hash : (bytes : List ℕ) → ℕ
 hash bytes = (1000003 * le4 bytes 0 + 10000019 * le4 bytes 4 + (100000007 * le4 bytes 8 + 1000000007 * le4 bytes 12)) / 65536 % 4294967296
 
-abbrev pub hash_at_lem : (file : List ℕ) → ℕ → ℕ
-hash_at_lem file r = hash (feature_bytes file r)
+abbrev pub hash_at : (file : List ℕ) → ℕ → ℕ
+hash_at file r = hash (feature_bytes file r)
 
 abbrev pub hashes_at : (file numbers : List ℕ) → List ℕ
-hashes_at file numbers = map (hash_at_lem file) numbers
+hashes_at file numbers = map (hash_at file) numbers
 
 -- of the records of a file, those whose items stay where these items follow. All sixteen features are compared: those past d are 0.
 abbrev pub stays_at : (file : List ℕ) → (later : List Item) → ℕ → List ℕ → Bool

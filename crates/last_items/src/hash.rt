@@ -3,7 +3,7 @@
 ghost use Rattle.std.specs.Prelude.{◌≡◌, ◌≤◌, length, take};
 ghost use Rattle.integers.specs.Member.{member};
 ghost use Rattle.training_file.specs.Record.{Stored};
-ghost use Rattle.last_items.specs.Kept.{AllStored, hash_at_lem, hashes_at};
+ghost use Rattle.last_items.specs.Kept.{AllStored, hash_at, hashes_at};
 
 use training_file::bytes::u32_at;
 use training_file::record::feature_part;
@@ -11,7 +11,7 @@ use training_file::record::feature_part;
 // A number that the record's sixteen feature bytes determine.
 fn hash(file: &[u8], number: usize) -> u32
     requires { Stored file.now number }
-    ensures { result ≡ hash_at_lem file.now number }
+    ensures { result ≡ hash_at file.now number }
 {
     let part = feature_part(file, number);
     let low = 1_000_003 * (u32_at(part, 0) as u64) + 10_000_019 * (u32_at(part, 4) as u64);

@@ -5,7 +5,7 @@ ghost use Rattle.std.specs.Prelude.{◌≡◌};
 ghost use Rattle.training_file.specs.Layout.{feature_count};
 ghost use Rattle.training_file.specs.Record.{Stored, item_at};
 ghost use Rattle.last_items.specs.Last.{repeated, same_features};
-ghost use Rattle.last_items.specs.Kept.{AllStored, FewStored, Kept, hash_at_lem, hashes_at, items_at};
+ghost use Rattle.last_items.specs.Kept.{AllStored, FewStored, Kept, hash_at, hashes_at, items_at};
 
 use super::hash::{fill_hashes, has};
 use training_file::bytes::u64_at;
@@ -35,7 +35,7 @@ fn is_repeated(
     hashes: &[u32],
 ) -> bool
     requires stored { Stored left.now a × AllStored file.now numbers.now }
-    requires hashed { (hash ≡ hash_at_lem left.now a) × (hashes.now ≡ hashes_at file.now numbers.now) }
+    requires hashed { (hash ≡ hash_at left.now a) × (hashes.now ≡ hashes_at file.now numbers.now) }
     ensures { result ≡ repeated feature_count (item_at left.now a) (items_at file.now numbers.now) }
 {
     if !has(hashes, hash) {

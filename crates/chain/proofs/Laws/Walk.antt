@@ -14,7 +14,7 @@ use borrow.Author.Tests.{ltb-true, ltb-false, leb-true, le-ltb, lt-ltb, le-leb, 
 use Rattle.integers.specs.Member.{member}
 use Rattle.integers.proofs.Laws.Member.{member_false, no_member}
 use Rattle.integers.proofs.Laws.Truth.{&&_both, &&_false_right, clash, not_false_true, not_true_false}
-use Rattle.chain.specs.Walk.{Walk, Walked, broken, comes_to, ends, goes_on_lem, last_of, led_to, records_met}
+use Rattle.chain.specs.Walk.{Walk, Walked, broken, comes_to, ends, goes_on, last_of, led_to, records_met}
 
 -- ---- the pigeonhole principle
 
@@ -96,10 +96,10 @@ led_at next first (x ∷ met) k e = ap next (last_at (x ∷ met) k e)
 -- ---- whether a walk goes on to a number, and what it comes to there
 
 module _ (m : ℕ) (met : List ℕ) (number : ℕ) where
-  goes_on_lem : 1 ≤ number → number ≤ m → member number met ≡ false → goes_on_lem m met number ≡ true
+  goes_on_lem : 1 ≤ number → number ≤ m → member number met ≡ false → goes_on m met number ≡ true
   goes_on_lem l h e = rw (le-leb 1 number l, le-leb number m h, e)
 
-  went_on : goes_on_lem m met number ≡ true → (1 ≤ number) × (number ≤ m) × (member number met ≡ false)
+  went_on : goes_on m met number ≡ true → (1 ≤ number) × (number ≤ m) × (member number met ≡ false)
   went_on e =
       let both = &&_both (leb 1 number && leb number m) (not (member number met)) e in
       let range = &&_both (leb 1 number) (leb number m) both.0 in
@@ -107,7 +107,7 @@ module _ (m : ℕ) (met : List ℕ) (number : ℕ) where
 
   -- that a walk which has met these records and is led to this number does not go on, and comes to w
   pub record Stops (w : Walk) : Type 0 where
-    pub stays : goes_on_lem m met number ≡ false
+    pub stays : goes_on m met number ≡ false
     pub there : comes_to m met number ≡ w
 
   pub stops_ended : number ≡ 0 → Stops (ends met)
@@ -178,9 +178,9 @@ module _ (next : ℕ → ℕ) (m first : ℕ) where
 
   -- and goes on to it: no record before the last is at fault
   pub walked_goes : (met : List ℕ) → Walked next m first met → (k : ℕ) → k < length met
-      → goes_on_lem m (take k met) (led_to next first (take k met)) ≡ true
+      → goes_on m (take k met) (led_to next first (take k met)) ≡ true
   walked_goes met w k h =
-      ap (goes_on_lem m (take k met)) (walked_led met w k h)
+      ap (goes_on m (take k met)) (walked_led met w k h)
       ∙ goes_on_lem m (take k met) (get_or met k 0) (w.within k h).0 (w.within k h).1 (no_member (get_or met k 0) (take k met) others)
     where
       others : (j : ℕ) → j < length (take k met) → get_or (take k met) j 0 ≢ get_or met k 0
@@ -220,7 +220,7 @@ module _ (next : ℕ → ℕ) (m first : ℕ) where
           (snoc_cases met r k b)
 
   -- so the one that a walk goes on to does
-  walked_on : (met : List ℕ) → Walked next m first met → goes_on_lem m met (led_to next first met) ≡ true
+  walked_on : (met : List ℕ) → Walked next m first met → goes_on m met (led_to next first met) ≡ true
       → Walked next m first (met ++ (led_to next first met ∷ []))
   walked_on met w e =
       let new = went_on m met (led_to next first met) e in
@@ -231,15 +231,15 @@ module _ (next : ℕ → ℕ) (m first : ℕ) where
   -- that a walk meets these records and goes on to no other
   pub record MeetsAll (met : List ℕ) : Type 0 where
     pub walked : Walked next m first met
-    pub stays : goes_on_lem m met (led_to next first met) ≡ false
+    pub stays : goes_on m met (led_to next first met) ≡ false
 
   -- a turn of a walk that goes on, and the turns of one that does not
-  met_more : (turns : ℕ) (met : List ℕ) → goes_on_lem m met (led_to next first met) ≡ true
+  met_more : (turns : ℕ) (met : List ℕ) → goes_on m met (led_to next first met) ≡ true
       → records_met next m first (suc turns) met ≡ records_met next m first turns (met ++ (led_to next first met ∷ []))
   unfolding records_met
   met_more turns met e = rw e
 
-  met_no_more : (turns : ℕ) (met : List ℕ) → goes_on_lem m met (led_to next first met) ≡ false → records_met next m first turns met ≡ met
+  met_no_more : (turns : ℕ) (met : List ℕ) → goes_on m met (led_to next first met) ≡ false → records_met next m first turns met ≡ met
   unfolding records_met
   met_no_more zero met e = refl
   met_no_more (suc turns) met e = rw e
@@ -249,13 +249,13 @@ module _ (next : ℕ → ℕ) (m first : ℕ) where
 
   -- the turns that are left of m suffice
   met_within : (turns : ℕ) (met : List ℕ) → Walked next m first met → m ≤ turns + length met → MeetsAll (records_met next m first turns met)
-  met_within zero met w h = met_here zero met (record { walked = w; stays = not_true_false (goes_on_lem m met (led_to next first met)) none_left })
+  met_within zero met w h = met_here zero met (record { walked = w; stays = not_true_false (goes_on m met (led_to next first met)) none_left })
     where
-      none_left : goes_on_lem m met (led_to next first met) ≡ true → ⊥
+      none_left : goes_on m met (led_to next first met) ≡ true → ⊥
       none_left e = omega (arith, walked_most _ (walked_on met w e), length-append met (led_to next first met ∷ []))
-  met_within (suc turns) met w h = by (goes_on_lem m met (led_to next first met)) refl (met_within turns)
+  met_within (suc turns) met w h = by (goes_on m met (led_to next first met)) refl (met_within turns)
     where
-      by : (t : Bool) → goes_on_lem m met (led_to next first met) ≡ t
+      by : (t : Bool) → goes_on m met (led_to next first met) ≡ t
           → ((more : List ℕ) → Walked next m first more → m ≤ turns + length more → MeetsAll (records_met next m first turns more))
           → MeetsAll (records_met next m first (suc turns) met)
       by true e below =

@@ -23,7 +23,7 @@ use Rattle.training_file.specs.Record.{Stored, features_at, item_at}
 use Rattle.training_file.proofs.Laws.Layout.{signed_byte_back}
 use Rattle.training_file.proofs.Laws.Record.{bytes_sixteen, feature_bytes_small}
 use Rattle.last_items.specs.Last.{is_last, last_only, repeated, same_features, staying}
-use Rattle.last_items.specs.Kept.{AllStored, FewStored, Kept, hash, hash_at_lem, hashes_at, items_at, staying_at, stays_at}
+use Rattle.last_items.specs.Kept.{AllStored, FewStored, Kept, hash, hash_at, hashes_at, items_at, staying_at, stays_at}
 use Rattle.last_items.proofs.Laws.Last.{repeated-append, staying_all, staying-length, staying_map, staying_parts}
 
 -- ---- a search of numbers from the first on
@@ -42,13 +42,13 @@ member_all r rs k found h = ap (λ l. found || member r l) (drop_of_length-le rs
 -- ---- hashes written one after the other
 
 module _ (file numbers hashes : List ℕ) (k : ℕ) where
-  pub hashed_more : (h : ℕ) → k < length numbers → k < length hashes → h ≡ hash_at_lem file (get_or numbers k 0) → take k hashes ≡ hashes_at file (take k numbers)
+  pub hashed_more : (h : ℕ) → k < length numbers → k < length hashes → h ≡ hash_at file (get_or numbers k 0) → take k hashes ≡ hashes_at file (take k numbers)
       → take (k + 1) (set hashes k h) ≡ hashes_at file (take (k + 1) numbers)
   hashed_more h inside room is so_far =
       ap (λ (j : ℕ). take j (set hashes k h)) (add-one k)
       ∙ take-suc-set hashes k h room
       ∙ (λ i. so_far i ++ (is i ∷ []))
-      ∙ sym (map-append (hash_at_lem file) (take k numbers) (get_or numbers k 0 ∷ []))
+      ∙ sym (map-append (hash_at file) (take k numbers) (get_or numbers k 0 ∷ []))
       ∙ ap (hashes_at file) (sym (take-suc numbers k 0 inside))
       ∙ ap (λ (j : ℕ). hashes_at file (take j numbers)) (sym (add-one k))
 
@@ -161,17 +161,17 @@ stored-drop file numbers k stored j h =
 module _ (left : List ℕ) (small-left : (i : ℕ) → byte_at left i < 256) (a : ℕ) (stored-a : Stored left a)
     (file : List ℕ) (small : (i : ℕ) → byte_at file i < 256) where
   -- where none has the hash, none has the features
-  pub unhashed : (numbers : List ℕ) → AllStored file numbers → member (hash_at_lem left a) (hashes_at file numbers) ≡ false
+  pub unhashed : (numbers : List ℕ) → AllStored file numbers → member (hash_at left a) (hashes_at file numbers) ≡ false
       → repeated feature_count (item_at left a) (items_at file numbers) ≡ false
   unfolding repeated
   unhashed [] stored none = refl
   unhashed (r ∷ numbers) stored none =
-      λ i. other i || unhashed numbers (λ k h. stored (suc k) (suc-le-suc h)) (||_neither (eqb (hash_at_lem left a) (hash_at_lem file r)) _ none).1 i
+      λ i. other i || unhashed numbers (λ k h. stored (suc k) (suc-le-suc h)) (||_neither (eqb (hash_at left a) (hash_at file r)) _ none).1 i
     where
       other : same_features feature_count (item_at left a) (item_at file r) ≡ false
       other =
           not_true_false _
-          (λ h. eqb-false (hash_at_lem left a) (hash_at_lem file r) (||_neither (eqb (hash_at_lem left a) (hash_at_lem file r)) _ none).0
+          (λ h. eqb-false (hash_at left a) (hash_at file r) (||_neither (eqb (hash_at left a) (hash_at file r)) _ none).0
           (ap hash (same_bytes left file small-left small a r stored-a (stored 0 (omega arith)) h)))
 
 -- one record is passed, or found
@@ -283,7 +283,7 @@ stays_is file later-file later r rest own other =
     (λ i. not (own i || other i)) ∙ ap not (sym (repeated-append feature_count (item_at file r) (items_at file rest) (items_at later-file later)))
 
 -- the hash of a record, and those of the rest
-pub hash_at_lem : (file numbers : List ℕ) (k : ℕ) → k < length numbers → get_or (hashes_at file numbers) k 0 ≡ hash_at_lem file (get_or numbers k 0)
+pub hash_at_lem : (file numbers : List ℕ) (k : ℕ) → k < length numbers → get_or (hashes_at file numbers) k 0 ≡ hash_at file (get_or numbers k 0)
 hash_at_lem file [] k h = absurd (omega arith)
 hash_at_lem file (r ∷ numbers) zero h = refl
 hash_at_lem file (r ∷ numbers) (suc k) h = hash_at_lem file numbers k (le_of_suc-le-suc h)

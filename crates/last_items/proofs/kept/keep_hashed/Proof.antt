@@ -7,7 +7,7 @@ use Prim.Native.Nat.{ℕ, ◌+◌, ◌-◌, ◌<◌}
 use native.Mathlib.Omega.{arith}
 use lib.ListN.{length, get_or, take, drop, length-map}
 use Rattle.training_file.specs.Record.{Stored}
-use Rattle.last_items.specs.Kept.{AllStored, hash_at_lem, hashes_at, items_at, stays_at}
+use Rattle.last_items.specs.Kept.{AllStored, hash_at, hashes_at, items_at, stays_at}
 use Rattle.last_items.proofs.Laws.Kept.{Keeping, hash_at_lem, hashes_drop, keeping_all, keeping_less, keeping_more, keeping_none, keeping_number, keeping_rest, part_from, stays_is, stored-drop}
 use Rattle.last_items.proofs.kept.keep_hashed.Statement.{statement}
 use Rattle.last_items.proofs.kept.keep_hashed.Tie as tie
@@ -39,7 +39,7 @@ module _ (c : tie.In-loop invariant-loop decreases-loop) where
   small = omega (arith, inside)
 
   hashed : length start.args.hashes.now ≡ length before
-  hashed = ap length start.pre.1.0 ∙ length-map before (hash_at_lem start.args.file.now)
+  hashed = ap length start.pre.1.0 ∙ length-map before (hash_at start.args.file.now)
 
   number_is : get_or c.before.loop.numbers place 0 ≡ get_or before place 0
   number_is = keeping_number _ _ before c.before.loop.numbers _ place c.before.loop.invariant
@@ -56,11 +56,11 @@ module _ (c : tie.In-loop invariant-loop decreases-loop) where
   rest_stored : AllStored start.args.file.now rest
   rest_stored = subst (AllStored start.args.file.now) (sym rest_is) (stored-drop start.args.file.now before (place + 1) start.pre.0.0)
 
-  hash_is : get_or start.args.hashes.now place 0 ≡ hash_at_lem start.args.file.now (get_or c.before.loop.numbers place 0)
+  hash_is : get_or start.args.hashes.now place 0 ≡ hash_at start.args.file.now (get_or c.before.loop.numbers place 0)
   hash_is =
       ap (λ (l : List ℕ). get_or l place 0) start.pre.1.0
       ∙ hash_at_lem start.args.file.now before place inside
-      ∙ ap (hash_at_lem start.args.file.now) (sym number_is)
+      ∙ ap (hash_at start.args.file.now) (sym number_is)
 
   rest_hashed : take (length start.args.hashes.now - (place + 1)) (drop (place + 1) start.args.hashes.now) ≡ hashes_at start.args.file.now rest
   rest_hashed =
