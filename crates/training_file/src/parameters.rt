@@ -9,14 +9,14 @@ use super::range::within;
 use super::refusal::Refusal;
 
 // Which kernel compares two items.
-#[derive(Drop)]
+#[derive(Clone, Copy)]
 pub enum Kernel {
     Linear,
     Square,
     Overlap,
 }
 
-#[derive(Drop)]
+#[derive(Clone, Copy)]
 pub enum KernelAnswer {
     Refused(Refusal),
     Known(Kernel),
@@ -69,7 +69,7 @@ impl Kernel {
     }
 }
 
-#[derive(Drop)]
+#[derive(Clone, Copy)]
 pub struct Parameters {
     // d, how many of an item's features are in use.
     pub used: usize,
