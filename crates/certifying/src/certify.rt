@@ -13,7 +13,7 @@ use thresholds::extremes::{Thresholds, find_thresholds};
 use training_file::parameters::Parameters;
 use training_file::refusal::Refusal;
 
-#[derive(Drop)]
+#[derive(Clone, Copy)]
 pub enum Certified {
     Refused(Refusal),
     Found(Thresholds),

@@ -11,7 +11,7 @@ use reading::reader::fetch_label;
 use training_file::parameters::Parameters;
 use training_file::refusal::Refusal;
 
-#[derive(Drop)]
+#[derive(Clone, Copy)]
 pub enum Judgement {
     Refused(Refusal),
     Feasible,

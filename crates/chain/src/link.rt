@@ -9,7 +9,7 @@ use training_file::bytes::u16_at;
 use training_file::{layout, record};
 
 // What the walk finds at a number, which tells how it goes on.
-#[derive(Drop)]
+#[derive(Clone, Copy)]
 pub enum Link {
     // The number is 0, which ends the chain, with so many records met.
     Ended(usize),

@@ -11,7 +11,7 @@ ghost use Rattle.chain.specs.Answers.{link_at, link_next};
 use super::link;
 use super::link::Link;
 
-#[derive(Drop)]
+#[derive(Clone, Copy)]
 pub struct Walker<'a> {
     pub file: &'a [u8],
     pub number: usize,

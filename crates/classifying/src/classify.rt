@@ -20,7 +20,7 @@ use training_file::refusal::Refusal;
 
 // What classifying says of a word. A label is what the log says of one, so this is an enum of its own. What to do with an undecided word is
 // the caller's choice.
-#[derive(Drop)]
+#[derive(Clone, Copy)]
 pub enum Class {
     LookedUp,
     PassedOver,
@@ -41,7 +41,7 @@ impl Class {
     }
 }
 
-#[derive(Drop)]
+#[derive(Clone, Copy)]
 pub enum Classified {
     Refused(Refusal),
     Is(Class),

@@ -11,7 +11,7 @@ ghost use Rattle.importing.specs.Judged.{Importable, found_items, judged};
 use libsvm_text::line::{ends, read_line};
 use written_file::record::{following, put_record};
 
-#[derive(Drop)]
+#[derive(Clone, Copy)]
 pub struct Judged {
     pub formed: bool,
     pub wide: bool,

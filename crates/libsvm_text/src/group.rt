@@ -18,7 +18,7 @@ use super::numeral::{MOST, is_digit, is_leading, read_digits};
 
 // A value: whether it is one, whether it is outside the range, the feature, 0 where it is, and the place after it. Nothing rests on the
 // others where it is none.
-#[derive(Drop)]
+#[derive(Clone, Copy)]
 pub struct ValueRead {
     pub formed: bool,
     pub wide: bool,
@@ -27,7 +27,7 @@ pub struct ValueRead {
 }
 
 // A feature number with its colon.
-#[derive(Drop)]
+#[derive(Clone, Copy)]
 pub struct NumberRead {
     pub formed: bool,
     pub number: usize,
@@ -35,7 +35,7 @@ pub struct NumberRead {
 }
 
 // Both together.
-#[derive(Drop)]
+#[derive(Clone, Copy)]
 pub struct GroupRead {
     pub formed: bool,
     pub wide: bool,

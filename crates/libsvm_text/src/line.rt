@@ -7,7 +7,7 @@ ghost use Rattle.libsvm_text.specs.Read.{ReadsGroups, ReadsLine, Within, label_a
 use super::group::read_group;
 use training_file::item::{Item, Label};
 
-#[derive(Drop)]
+#[derive(Clone, Copy)]
 pub struct LabelRead {
     pub formed: bool,
     pub label: Label,
@@ -15,7 +15,7 @@ pub struct LabelRead {
 
 // The groups of a line: whether they are of the form, whether a value is outside the range, the features where none is, and the place after
 // them. Nothing rests on the others where they aren't.
-#[derive(Drop)]
+#[derive(Clone, Copy)]
 pub struct GroupsRead {
     pub formed: bool,
     pub wide: bool,
@@ -24,7 +24,7 @@ pub struct GroupsRead {
 }
 
 // The same of a line, with its item.
-#[derive(Drop)]
+#[derive(Clone, Copy)]
 pub struct LineRead {
     pub formed: bool,
     pub wide: bool,

@@ -7,7 +7,7 @@ ghost use Rattle.libsvm_text.specs.Read.{ReadsDigits, Within, leading, leads};
 use training_file::item::Item;
 
 // Digits that follow one another: what is told of their number, and the place after them.
-#[derive(Drop)]
+#[derive(Clone, Copy)]
 pub struct Digits {
     pub number: usize,
     pub end: usize,

@@ -6,7 +6,7 @@ ghost use Rattle.lookahead_c.specs.Parameters.{parameter_numbers, parameters_by}
 use lookahead::{Kernel, Parameters};
 
 #[repr(C)]
-#[derive(Drop)]
+#[derive(Clone, Copy)]
 pub struct ParameterNumbers {
     pub used: usize,
     pub kernel: u8,

@@ -10,7 +10,7 @@ use lookahead::{FileAnswer, Refusal};
 
 // It is answered by value: a struct that is lent isn't covered. After a refusal the other numbers are 0.
 #[repr(C)]
-#[derive(Drop)]
+#[derive(Clone, Copy)]
 pub struct ReadAnswer {
     pub refusal: Refusal,
     pub items: usize,

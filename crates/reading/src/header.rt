@@ -11,7 +11,7 @@ use training_file::parameters::{Kernel, KernelAnswer, Parameters};
 use training_file::refusal::Refusal;
 
 // The parameters of a header, or the refusal.
-#[derive(Drop)]
+#[derive(Clone, Copy)]
 pub enum ParametersAnswer {
     Refused(Refusal),
     Allowed(Parameters),

@@ -16,7 +16,7 @@ use training_file::record;
 use training_file::refusal::Refusal;
 
 // What a file is read as: the refusal, or the parameters and how many items there are.
-#[derive(Drop)]
+#[derive(Clone, Copy)]
 pub enum FileAnswer {
     Refused(Refusal),
     Accepted(Parameters, usize),

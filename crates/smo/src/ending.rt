@@ -1,5 +1,5 @@
 // Why training ended.
-#[derive(Drop)]
+#[derive(Clone, Copy)]
 pub enum Ending {
     Converged,
     Stuck,

@@ -16,7 +16,7 @@ use training_file::parameters::Parameters;
 use working_pair::pair::{Pair, working_pair};
 
 // What is done before a step: the run ends, or a pair moves.
-#[derive(Drop)]
+#[derive(Clone, Copy)]
 pub enum Decision {
     Ends(Ending),
     Moves(usize, usize),
@@ -35,7 +35,7 @@ impl Decision {
 }
 
 // How a run ended: the ending, the steps taken, b_low and b_up.
-#[derive(Drop)]
+#[derive(Clone, Copy)]
 pub struct Trained {
     pub ending: Ending,
     pub steps: u32,

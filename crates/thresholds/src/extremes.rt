@@ -23,7 +23,7 @@ fn in_up(label: Label, multiplier: u32, ceiling: u32) -> bool
 }
 
 // Whether an item is in either set.
-#[derive(Drop)]
+#[derive(Clone, Copy)]
 pub struct Sets {
     pub low: bool,
     pub up: bool,
@@ -50,7 +50,7 @@ pub fn sets_at(
 }
 
 // The best place so far, with its value.
-#[derive(Drop)]
+#[derive(Clone, Copy)]
 pub enum Best {
     Nothing,
     At(usize, i64),
@@ -85,7 +85,7 @@ impl Best {
 }
 
 // Where the lower threshold is attained, in the low set, and the upper one, in the up set.
-#[derive(Drop)]
+#[derive(Clone, Copy)]
 pub struct Extremes {
     pub low: Best,
     pub up: Best,
@@ -121,7 +121,7 @@ pub fn find_extremes(
 }
 
 // b_low and b_up.
-#[derive(Drop)]
+#[derive(Clone, Copy)]
 pub struct Thresholds {
     pub lower: i64,
     pub upper: i64,

@@ -6,7 +6,7 @@ ghost use Rattle.totals.specs.Totals.{both, one_above_zero, totals_of_line};
 use training_file::item::Label;
 
 // What the line of an item shows.
-#[derive(Drop)]
+#[derive(Clone, Copy)]
 pub struct Shown {
     pub number: u16,
     pub label: Label,
@@ -14,7 +14,7 @@ pub struct Shown {
 }
 
 // How many multipliers are above 0, and the sums of the multipliers over label +1 and over label -1.
-#[derive(Drop)]
+#[derive(Clone, Copy)]
 pub struct Totals {
     pub count: u64,
     pub plus: u64,

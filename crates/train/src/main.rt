@@ -10,7 +10,7 @@ use training_file::layout;
 use training_file::parameters::Parameters;
 
 // What standard input gave: so many bytes, or an error.
-#[derive(Drop)]
+#[derive(Clone, Copy)]
 pub enum Input {
     Bytes(usize),
     Failed,

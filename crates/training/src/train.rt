@@ -14,7 +14,7 @@ use smo::run::{Trained, run};
 use training_file::parameters::Parameters;
 use training_file::refusal::Refusal;
 
-#[derive(Drop)]
+#[derive(Clone, Copy)]
 pub enum Training {
     Refused(Refusal),
     Ended(Trained),

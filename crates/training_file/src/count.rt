@@ -6,7 +6,7 @@ ghost use Rattle.training_file.specs.Answers.{count_refusal};
 use super::refusal::Refusal;
 
 // What a stage counts, or the refusal that it meets.
-#[derive(Drop)]
+#[derive(Clone, Copy)]
 pub enum Count {
     Refused(Refusal),
     Counted(usize),

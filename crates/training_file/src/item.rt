@@ -10,13 +10,13 @@ use super::range::within;
 use super::refusal::Refusal;
 
 // What the log says of a word.
-#[derive(Drop)]
+#[derive(Clone, Copy)]
 pub enum Label {
     LookedUp,
     PassedOver,
 }
 
-#[derive(Drop)]
+#[derive(Clone, Copy)]
 pub enum LabelAnswer {
     Refused(Refusal),
     Known(Label),
@@ -93,7 +93,7 @@ impl Label {
 }
 
 // The features come first, so that a copy of an item moves all sixteen as one block and what is read of them next need not wait for two.
-#[derive(Drop)]
+#[derive(Clone, Copy)]
 pub struct Item {
     pub features: [i8; Item::FEATURE_COUNT],
     pub label: Label,
@@ -101,7 +101,7 @@ pub struct Item {
 
 // What `Item::new` answers: whether the label's byte and the features are allowed, and the item that they make. An enum that holds an array
 // isn't covered.
-#[derive(Drop)]
+#[derive(Clone, Copy)]
 pub struct ItemAnswer {
     pub allowed: bool,
     pub item: Item,

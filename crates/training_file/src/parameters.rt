@@ -16,7 +16,7 @@ pub enum Kernel {
     Overlap,
 }
 
-#[derive(Drop)]
+#[derive(Clone, Copy)]
 pub enum KernelAnswer {
     Refused(Refusal),
     Known(Kernel),

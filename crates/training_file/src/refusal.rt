@@ -6,7 +6,7 @@ ghost use Rattle.training_file.specs.Refusal.{refusal_at};
 
 // It is what the calls for C answer, by value.
 #[repr(C)]
-#[derive(Drop)]
+#[derive(Clone, Copy)]
 pub struct Refusal {
     pub number: u8,
     // The record at fault; 0 where the refusal carries none, since records are numbered from 1.

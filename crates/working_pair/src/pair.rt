@@ -14,14 +14,14 @@ use thresholds::extremes::{Best, Extremes, sets_at};
 use training_file::parameters::Parameters;
 
 // The pair that a step moves, by places counted from 0: i of the low set, then j of the up set.
-#[derive(Drop)]
+#[derive(Clone, Copy)]
 pub enum Pair {
     Nothing,
     At(usize, usize),
 }
 
 // The j with which an i moves.
-#[derive(Drop)]
+#[derive(Clone, Copy)]
 enum Partner {
     Nothing,
     At(usize),
