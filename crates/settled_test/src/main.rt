@@ -2,13 +2,15 @@
 // results settled there, our own E1 to E3, K1 to K4, F1 to F6, I1 to I7, B1 to B7, C1 to C7 and H1 to H8, and words at the ends of the
 // range; the table is tests/reference/src/settled.rs. That the definitions give the settled results is the theorem `settled`; this shows the
 // compiled code give them.
+#![tactic(auto)]
 
 ghost use Rattle.std.specs.Prelude.{◌≡◌, ◌+◌, ◌≤◌, length};
 
-use libc::{STDIN_FILENO, STDOUT_FILENO};
 use lookahead::{
     Certified, Class, Classified, Ending, Kernel, Parameters, Refusal, Trained, Training,
 };
+use std::io;
+use std::io::Read;
 use text::number::put_signed;
 use training_file::bytes::{signed_byte, u16_at, u32_at, u64_at};
 use training_file::count::Count;
@@ -64,113 +66,98 @@ const TEXT: usize = 800;
 const PLACES: usize = 93;
 
 // A space and a number, of which the longest has a sign and 20 digits.
-fn show_number(number: i64) {
+fn show_number(rt: &impl Print, number: i64) -> io::Result<()> {
     let mut line = [b' '; 22];
     let end = put_signed(&mut line, 1, number);
-    io::write_all(STDOUT_FILENO, &line[..end]);
+    rt.write_all(&line[..end])
 }
 
 // The record is shown also where it is 0, which no refusal but 3 and 16 may carry.
-fn show_refusal(refusal: Refusal) {
-    io::write_all(STDOUT_FILENO, b" refused");
-    show_number(refusal.number as i64);
-    show_number(refusal.at as i64);
+fn show_refusal(rt: &impl Print, refusal: Refusal) -> io::Result<()> {
+    print!(rt; " refused")?;
+    show_number(rt, refusal.number as i64)?;
+    show_number(rt, refusal.at as i64)
 }
 
-fn show_thresholds(lower: i64, upper: i64) {
-    io::write_all(STDOUT_FILENO, b" thresholds");
-    show_number(lower);
-    show_number(upper);
+fn show_thresholds(rt: &impl Print, lower: i64, upper: i64) -> io::Result<()> {
+    print!(rt; " thresholds")?;
+    show_number(rt, lower)?;
+    show_number(rt, upper)
 }
 
-fn show_trained(trained: Trained) {
+fn show_trained(rt: &impl Print, trained: Trained) -> io::Result<()> {
     // The checker covers a match on a local, not on a field.
     let ending = trained.ending;
     match ending {
-        Ending::Converged => {
-            io::write_all(STDOUT_FILENO, b" converged");
-        }
-        Ending::Stuck => {
-            io::write_all(STDOUT_FILENO, b" stuck");
-        }
-        Ending::Spent => {
-            io::write_all(STDOUT_FILENO, b" spent");
-        }
+        Ending::Converged => print!(rt; " converged")?,
+        Ending::Stuck => print!(rt; " stuck")?,
+        Ending::Spent => print!(rt; " spent")?,
     }
-    show_number(trained.steps as i64);
-    io::write_all(STDOUT_FILENO, b",");
-    show_thresholds(trained.lower, trained.upper);
+    show_number(rt, trained.steps as i64)?;
+    print!(rt; ",")?;
+    show_thresholds(rt, trained.lower, trained.upper)
 }
 
-fn show_training(training: Training) {
+fn show_training(rt: &impl Print, training: Training) -> io::Result<()> {
     let Training::Ended(trained) = training else {
-        show_refusal(training.refusal());
-        return;
+        return show_refusal(rt, training.refusal());
     };
-    show_trained(trained);
+    show_trained(rt, trained)
 }
 
-fn show_multiplier(multiplier: u32) {
-    show_number(multiplier as i64);
+fn show_multiplier(rt: &impl Print, multiplier: u32) -> io::Result<()> {
+    show_number(rt, multiplier as i64)
 }
 
 // Three places are lent, also where there are two items: what training leaves alone shows.
-fn train(file: &[u8], mut multipliers: [u32; 3]) {
+fn train(rt: &impl Print, file: &[u8], mut multipliers: [u32; 3]) -> io::Result<()> {
     let mut gradient = [9i64; 3];
-    show_training(lookahead::train::train(file, &mut multipliers, &mut gradient));
-    io::write_all(STDOUT_FILENO, b", multipliers");
-    show_multiplier(multipliers[0]);
-    show_multiplier(multipliers[1]);
-    show_multiplier(multipliers[2]);
+    show_training(
+        rt,
+        lookahead::train::train(file, &mut multipliers, &mut gradient),
+    )?;
+    print!(rt; ", multipliers")?;
+    show_multiplier(rt, multipliers[0])?;
+    show_multiplier(rt, multipliers[1])?;
+    show_multiplier(rt, multipliers[2])
 }
 
-fn certify(file: &[u8], multipliers: &[u32]) {
+fn certify(rt: &impl Print, file: &[u8], multipliers: &[u32]) -> io::Result<()> {
     let certified = lookahead::certify::certify(file, multipliers);
     let Certified::Found(thresholds) = certified else {
-        show_refusal(certified.refusal());
-        return;
+        return show_refusal(rt, certified.refusal());
     };
-    show_thresholds(thresholds.lower, thresholds.upper);
+    show_thresholds(rt, thresholds.lower, thresholds.upper)
 }
 
-fn classify(file: &[u8], multipliers: &[u32], word: &[i8]) {
+fn classify(rt: &impl Print, file: &[u8], multipliers: &[u32], word: &[i8]) -> io::Result<()> {
     let classified = lookahead::classify::classify(file, multipliers, word);
     let Classified::Is(class) = classified else {
-        show_refusal(classified.refusal());
-        return;
+        return show_refusal(rt, classified.refusal());
     };
     match class {
-        Class::LookedUp => {
-            io::write_all(STDOUT_FILENO, b" looked up");
-        }
-        Class::PassedOver => {
-            io::write_all(STDOUT_FILENO, b" passed over");
-        }
-        Class::Undecided => {
-            io::write_all(STDOUT_FILENO, b" undecided");
-        }
+        Class::LookedUp => print!(rt; " looked up"),
+        Class::PassedOver => print!(rt; " passed over"),
+        Class::Undecided => print!(rt; " undecided"),
     }
 }
 
-fn show_count(count: Count) {
+fn show_count(rt: &impl Print, count: Count) -> io::Result<()> {
     let Count::Counted(length) = count else {
-        show_refusal(count.refusal());
-        return;
+        return show_refusal(rt, count.refusal());
     };
-    io::write_all(STDOUT_FILENO, b" length ");
-    io::print_decimal(STDOUT_FILENO, length as u64);
+    print!(rt; " length {length}")
 }
 
-fn show_byte(byte: u8) {
-    show_number(byte as i64);
+fn show_byte(rt: &impl Print, byte: u8) -> io::Result<()> {
+    show_number(rt, byte as i64)
 }
 
-fn show_bytes(bytes: &[u8]) {
-    let mut i = 0;
-    while i < bytes.len() {
-        show_byte(bytes[i]);
-        i += 1;
+fn show_bytes(rt: &impl Print, bytes: &[u8]) -> io::Result<()> {
+    for byte in bytes {
+        show_byte(rt, *byte)?;
     }
+    Ok(())
 }
 
 // The features and the label of the record that begins there.
@@ -243,38 +230,43 @@ fn import(file: &[u8], parameters: Parameters, times: usize, output: &mut [u8]) 
 }
 
 // Writes so many items, or imports a text with so many first lines. The places hold 9s beforehand: what is left alone shows.
-fn make_file(case: &[u8], times: usize, places: usize)
+fn make_file(rt: &impl Print, case: &[u8], times: usize, places: usize) -> io::Result<()>
     requires { length case.now ≡ 205 }
 {
     let answer = Kernel::from_byte(case[HEADER + layout::KERNEL]);
     let KernelAnswer::Known(kernel) = answer else {
-        show_refusal(answer.refusal());
-        return;
+        return show_refusal(rt, answer.refusal());
     };
     if ITEMS < times || PLACES < places {
-        return;
+        return Ok(());
     }
     let mut output = [9u8; PLACES];
     let lent = &mut output[0..places];
     if case[KIND] == WRITE {
-        show_count(write(case, parameters(case, kernel), times, lent));
+        show_count(rt, write(case, parameters(case, kernel), times, lent))?;
     } else {
-        show_count(import(part(case, FILE), parameters(case, kernel), times, lent));
+        show_count(
+            rt,
+            import(part(case, FILE), parameters(case, kernel), times, lent),
+        )?;
     }
-    io::write_all(STDOUT_FILENO, b", output");
-    show_bytes(lent);
+    print!(rt; ", output")?;
+    show_bytes(rt, lent)
 }
 
 // Pools two files, of which the first has so many of the bytes. The places hold 9s beforehand: what is left alone shows.
-fn pool(files: &[u8], older: usize, places: usize) {
+fn pool(rt: &impl Print, files: &[u8], older: usize, places: usize) -> io::Result<()> {
     if files.len() < older || PLACES < places {
-        return;
+        return Ok(());
     }
     let mut output = [9u8; PLACES];
     let lent = &mut output[0..places];
-    show_count(lookahead::pool::pool(&files[0..older], &files[older..], lent));
-    io::write_all(STDOUT_FILENO, b", output");
-    show_bytes(lent);
+    show_count(
+        rt,
+        lookahead::pool::pool(&files[0..older], &files[older..], lent),
+    )?;
+    print!(rt; ", output")?;
+    show_bytes(rt, lent)
 }
 
 // The bytes that come after their length, none where the case hasn't so many.
@@ -289,38 +281,38 @@ fn part(case: &[u8], at: usize) -> &[u8]
     &case[from..to]
 }
 
-fn show_case(case: &[u8])
+fn show_case(rt: &impl Print, case: &[u8]) -> io::Result<()>
     requires { length case.now ≡ 205 }
 {
-    io::write_all(STDOUT_FILENO, part(case, NAME));
+    rt.write_all(part(case, NAME))?;
     let file = part(case, FILE);
     let first = u32_at(case, FIRST);
     let second = u32_at(case, SECOND);
     let kind = case[KIND];
     if kind == TRAIN {
-        train(file, [first, second, u32_at(case, THIRD)]);
+        train(rt, file, [first, second, u32_at(case, THIRD)])?;
     } else if kind == CERTIFY {
-        certify(file, &[first, second]);
+        certify(rt, file, &[first, second])?;
     } else if kind == CLASSIFY {
-        classify(file, &[first, second], &[signed_byte(case[FEATURE])]);
+        classify(rt, file, &[first, second], &[signed_byte(case[FEATURE])])?;
     } else if kind == WRITE || kind == IMPORT {
         // How many items or first lines there are, and how many places the output has.
-        make_file(case, first as usize, second as usize);
+        make_file(rt, case, first as usize, second as usize)?;
     } else {
         // How long the older file is, and how many places the output has.
-        pool(file, first as usize, second as usize);
+        pool(rt, file, first as usize, second as usize)?;
     }
-    io::write_all(STDOUT_FILENO, b"\n");
+    println!(rt)
 }
 
-fn main() {
-    let mut shown = 0;
-    while shown < MOST {
+fn main(rt: HostRuntime) -> io::Result<()> {
+    let mut input = rt.stdin();
+    for _ in 0..MOST {
         let mut case = [0u8; CASE];
-        if io::read_full(STDIN_FILENO, &mut case) < CASE {
-            return;
+        if input.read_exact(&mut case).is_err() {
+            break;
         }
-        show_case(&case);
-        shown += 1;
+        show_case(&rt, &case)?;
     }
+    Ok(())
 }

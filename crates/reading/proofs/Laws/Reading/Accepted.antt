@@ -13,7 +13,7 @@ use Rattle.training_file.specs.declared.item.Item.{Item}
 use Rattle.training_file.specs.Layout.{first_record, next_of, records_stored}
 use Rattle.training_file.specs.Parameters.{Ranges, records_most}
 use Rattle.training_file.proofs.Laws.Parameters.{allowed_ranges}
-use Rattle.training_file.specs.Item.{feature_most, features_allowed, same, item_in}
+use Rattle.training_file.specs.Item.{feature_most, features_allowed, item_in}
 use Rattle.training_file.specs.Record.{Stored, features_at, item_at, record_allowed}
 use Rattle.training_file.proofs.Laws.Item.{features_most, features_past, labels_at}
 use Rattle.training_file.proofs.Laws.Record.{every_at, features_sixteen, record_features}
