@@ -19,26 +19,26 @@ record_length next label features h = omega (arith, h, length-map features byte_
 
 -- ---- records of twenty bytes, one after the other
 
-module _ (n : ℕ) (record_at : (next k : ℕ) → List ℕ) (twenty : (next k : ℕ) → k < n → length (record_at next k) ≡ 20) where
-  pub records-length : (k : ℕ) → k ≤ n → length (records_to n record_at k) ≡ 20 * k
+module _ (n : ℕ) (bytes_at : (next k : ℕ) → List ℕ) (twenty : (next k : ℕ) → k < n → length (bytes_at next k) ≡ 20) where
+  pub records-length : (k : ℕ) → k ≤ n → length (records_to n bytes_at k) ≡ 20 * k
   unfolding records_to
   records-length zero h = refl
   records-length (suc k) h =
-      length-append (records_to n record_at k) (record_at (following n (suc k)) k)
+      length-append (records_to n bytes_at k) (bytes_at (following n (suc k)) k)
       ∙ omega (arith, records-length k (omega arith), twenty (following n (suc k)) k h)
 
   -- byte i of record j + 1
   pub record_at : (k : ℕ) → k ≤ n → (j i : ℕ) → j < k → i < 20
-      → get_or (records_to n record_at k) (20 * j + i) 0 ≡ get_or (record_at (following n (suc j)) j) i 0
+      → get_or (records_to n bytes_at k) (20 * j + i) 0 ≡ get_or (bytes_at (following n (suc j)) j) i 0
   unfolding records_to
   record_at zero h j i l m = absurd (omega arith)
   record_at (suc k) h j i l m = by (record_at k (omega arith) j i) (eq-or-lt_of_le (le_of_suc-le-suc l))
     where
       passed : List ℕ
-      passed = records_to n record_at k
+      passed = records_to n bytes_at k
 
       last : ℕ → List ℕ
-      last p = record_at (following n (suc p)) p
+      last p = bytes_at (following n (suc p)) p
 
       before : length passed ≡ 20 * k
       before = records-length k (omega arith)
