@@ -1,5 +1,6 @@
 // The rule for one step (document 01, "The step"): which pair moves, and by how much. It may use `integers`, `training_file`, `reading`,
 // `dual_problem` and `thresholds`.
+#![tactic(auto)]
 
 pub mod amount;
 mod curvature;

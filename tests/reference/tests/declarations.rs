@@ -188,7 +188,7 @@ fn parameter(source: &str) -> Result<Vec<Declared>, String> {
     Ok(declared)
 }
 
-/// A function, from the source after `#[no_mangle]`.
+/// A function, from the source after `#[unsafe(no_mangle)]`.
 fn function(source: &str) -> Result<Declared, String> {
     let (signature, rest) = source
         .strip_prefix("pub extern \" C \" fn ")
@@ -218,17 +218,19 @@ fn function(source: &str) -> Result<Declared, String> {
 
 /// The functions that a file exports.
 fn functions(source: &str) -> Result<Vec<Declared>, String> {
-    let parts = source.split(" # [ no_mangle ] ").skip(1);
+    let parts = source.split(" # [ unsafe ( no_mangle ) ] ").skip(1);
     let functions: Vec<Declared> = parts.map(function).collect::<Result<_, _>>()?;
     if source.matches(" extern ").count() != functions.len() {
-        return Err("no rule for `extern` without `#[no_mangle]`".to_string());
+        return Err("no rule for `extern` without `#[unsafe(no_mangle)]`".to_string());
     }
     Ok(functions)
 }
 
-/// A struct, from the source after `#[repr(C)]`.
+/// A struct, from the source after `#[repr(C)]`, which may derive that it is
+/// copied.
 fn structure(source: &str) -> Result<Declared, String> {
     let (name, fields) = source
+        .trim_start_matches("# [ derive ( Clone , Copy ) ] ")
         .strip_prefix("pub struct ")
         .and_then(|rest| rest.split_once(" } "))
         .and_then(|(rest, _)| rest.split_once(" { "))
@@ -489,11 +491,11 @@ const WRONG: [(&str, &str, &str); 69] = [
     (HEADER, "int8_t features[LOOKAHEAD_FEATURES];\n    int8_t label;", "int8_t label;\n    int8_t features[LOOKAHEAD_FEATURES];"),
     (DECLARATIONS, "pub label: i8", "pub label: u8"),
     // A function that is declared nowhere, in one file alone, or not exported.
-    (CERTIFY, "#[no_mangle]", "#[no_mangle] pub extern \"C\" fn other(file: &[u8]) -> Refusal { }\n#[no_mangle]"),
+    (CERTIFY, "#[unsafe(no_mangle)]", "#[unsafe(no_mangle)] pub extern \"C\" fn other(file: &[u8]) -> Refusal { }\n#[unsafe(no_mangle)]"),
     (HEADER, "lookahead_reading lookahead_read(", "lookahead_reading lookahead_other("),
     (DECLARATIONS, "pub fn lookahead_read(", "pub fn lookahead_other("),
     (HEADER, "#ifdef __cplusplus\n}", "void other(void);\n#ifdef __cplusplus\n}"),
-    (CERTIFY, "#[no_mangle]", ""),
+    (CERTIFY, "#[unsafe(no_mangle)]", ""),
     // Forms that there is no rule for.
     (CERTIFY, "multipliers: &[u32]", "multipliers: &[[i8; 17]]"),
     (WRITE, "items: &[Row]", "items: Row"),

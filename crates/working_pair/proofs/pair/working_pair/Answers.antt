@@ -5,7 +5,6 @@ use mathlib.Core.List.{List}
 use mathlib.Core.Option.{Option, none, some}
 use Prim.Native.Nat.{ℕ}
 use native.Mathlib.Omega.{arith}
-use borrow.Author.Rules.{rules}
 use lib.IntN.{ℤ, pos}
 use lib.ListN.{get_or}
 use lib.Signed.{lt_z}
@@ -21,23 +20,9 @@ use Rattle.working_pair.specs.Step.{i_low, i_up, moves, working_pair}
 use Rattle.working_pair.specs.State.{State}
 use Rattle.working_pair.specs.Pair.{PairState, pair_of}
 use Rattle.working_pair.proofs.Laws.Step.WorkingPair.{working_pair_tried, working_pair_fallback}
-use Rattle.working_pair.proofs.pair.working_pair.Statement.{statement}
-use Rattle.working_pair.proofs.pair.working_pair.Tie as tie
-
-enum-known-low : tie.Need-enum-known-low
-enum-known-low c = search rules
-
-enum_told : tie.Need-enum-told
-enum_told c = search rules
-
-enum-known-up : tie.Need-enum-known-up
-enum-known-up c = search rules
-
-enum-told-2 : tie.Need-enum-told-2
-enum-told-2 c = search rules
-
-first-candidate-requires : tie.Need-first-candidate-requires
-first-candidate-requires c κs = search rules
+use Rattle.working_pair.proofs.pair.working_pair.Goals as goal
+use Rattle.thresholds.specs.declared.extremes.Best.{Best}
+use Rattle.working_pair.specs.Pair.{TellsMoves}
 
 -- what a best place says of what was found
 best_some : (f : ℕ → ℤ) (o : Option ℕ) {k : ℕ} {v : ℤ} → best_of f o ≡ best.At k v → o ≡ some k
@@ -88,73 +73,36 @@ module _ {file order : List ℕ} {n : ℕ} {p : Parameters} {a : List ℕ} {g : 
       let l = extreme_sound lt_z lt_z_strict (up P (at a)) (gradient P (at a)) (up_some f) in
       record { state = h; i_within = omega (arith, k.within, h.listed.table.counted); j_within = omega (arith, l.within, h.listed.table.counted) }
 
-returns : tie.Need-returns
+  -- what the test answered
+  moves_is : {i j : ℕ} {v w : ℤ} → extremes.low ≡ best.At i v → extremes.up ≡ best.At j w → {r t : Bool} → TellsMoves file order p g i j r → r ≡ t → moves P a i j ≡ t
+  moves_is e f h r = sym (h n a (tried e f)) ∙ r
+
+not_at : (b : Best) → ((i : ℕ) → (v : ℤ) → b ≡ best.At i v → ⊥) → b ≡ best.Nothing
+not_at best.Nothing n = refl
+not_at (best.At i v) n = absurd (n i v refl)
+
+pub pair_moves-requires : goal.pair_moves-requires
+pair_moves-requires c = (c.args.count, c.args.multipliers.now, tried c.requires.state c.args.extremes c.requires.extremes c.in-At.is c.in-At-up.is)
+
+pub returns : goal.returns
 returns c =
-    let s = c.before.before.before.before.before in
-    sym (ap pair_of (no_low s.requires.0 s.args.extremes s.requires.1 c.enum_told.given.1))
-
-returns-2 : tie.Need-returns-2
-returns-2 c =
-    let s = c.before.before.before.before.before.before.before.before in
-    sym (ap pair_of (no_up s.requires.0 s.args.extremes s.requires.1 c.before.before.before.low.given.1 c.enum-told2.given.1))
-
--- the pair tried first
-module _ (c : tie.After-known-told2) where
-  s : tie.Start
-  s = c.before.before.before.before.before.before.before.before.before
-
-  low_at : s.args.extremes.low ≡ best.At c.before.before.before.before.low.given.0.0 c.before.before.before.before.low.given.0.1.0
-  unfolding s
-  low_at = c.before.before.before.before.low.given.1
-
-  up_at : s.args.extremes.up ≡ best.At c.before.up.given.0.0 c.before.up.given.0.1.0
-  unfolding s
-  up_at = c.before.up.given.1
-
-pair-moves-requires : tie.Need-pair-moves-requires
-unfolding s
-pair-moves-requires c κs = ((s c).args.count, (s c).args.multipliers.now, tried (s c).requires.0 (s c).args.extremes (s c).requires.1 (low_at c) (up_at c))
-
--- what the test answered
-module _ (c : tie.After-pair-moves) where
-  moves_is : {t : Bool} → c.pair-moves.result ≡ t → moves (problem_of (s c.before).args.file.now (s c.before).args.parameters) (s c.before).args.multipliers.now c.before.before.before.before.before.low.given.0.0 c.before.before.up.given.0.0 ≡ t
-  unfolding s
-  moves_is e =
-      let b = s c.before in
-      sym (c.pair-moves.ensures b.args.count b.args.multipliers.now (tried b.pre.0 b.args.extremes b.pre.1 (low_at c.before) (up_at c.before))) ∙ e
-
-returns-3 : tie.Need-returns-3
-unfolding s
-returns-3 c =
-    let d = c.before.before in
-    let b = s d in
-    sym
-    (ap pair_of
-    (working_pair_tried _ _ (low_some b.pre.0 b.args.extremes b.pre.1 (low_at d)) (up_some b.pre.0 b.args.extremes b.pre.1 (up_at d))
-    (moves_is c.before c.if1.true)))
-
-returns-4 : tie.Need-returns-4
-unfolding s
-returns-4 c =
-    let d = c.before.before.before in
-    let b = s d in
-    c.first-candidate.ensures
+    c.first_candidate.ensures
     ∙ sym
     (ap pair_of
-    (working_pair_fallback _ _ (low_some b.pre.0 b.args.extremes b.pre.1 (low_at d)) (up_some b.pre.0 b.args.extremes b.pre.1 (up_at d))
-    (moves_is c.before.before c.before.if1.false)))
+    (working_pair_fallback _ _ (low_some c.requires.state c.args.extremes c.requires.extremes c.in-At.is) (up_some c.requires.state c.args.extremes c.requires.extremes c.in-At-up.is)
+    (moves_is c.requires.state c.args.extremes c.requires.extremes c.in-At.is c.in-At-up.is c.pair_moves.ensures c.if-pair_moves.false)))
 
-pub working_pair_spec : {M : Type 1} → statement M
-working_pair_spec =
-    tie.close
-    (tie.spec
-    enum-known-low
-    enum_told
-    returns
-    enum-known-up
-    enum-told-2
-    returns-2
-    pair-moves-requires
-    returns-3
-    first-candidate-requires
-    returns-4)
+pub returns-in_default : goal.returns-in_default
+returns-in_default c =
+    sym (ap pair_of (no_low c.requires.state c.args.extremes c.requires.extremes c.in_default.is))
+
+pub returns-in_default-up : goal.returns-in_default-up
+returns-in_default-up c =
+    sym (ap pair_of (no_up c.requires.state c.args.extremes c.requires.extremes c.in-At.is c.in_default-up.is))
+
+pub returns-then-pair_moves : goal.returns-then-pair_moves
+returns-then-pair_moves c =
+    sym
+    (ap pair_of
+    (working_pair_tried _ _ (low_some c.requires.state c.args.extremes c.requires.extremes c.in-At.is) (up_some c.requires.state c.args.extremes c.requires.extremes c.in-At-up.is)
+    (moves_is c.requires.state c.args.extremes c.requires.extremes c.in-At.is c.in-At-up.is c.pair_moves.ensures c.if-pair_moves.true)))

@@ -5,7 +5,6 @@ use mathlib.Core.List.{List}
 use Prim.Native.Nat.{ℕ, ◌+◌, ◌*◌, ◌≤◌, ◌<◌}
 use native.Mathlib.Nat.{le_refl}
 use native.Mathlib.Omega.{arith}
-use borrow.Author.Rules.{rules}
 use lib.IntN.{ℤ, pos, nat_abs, ◌-ℤ◌, ◌*ℤ◌}
 use lib.ListN.{get_or}
 use lib.Signed.{le_z, lt_z}
@@ -27,20 +26,7 @@ use Rattle.working_pair.specs.Step.{slope, moves}
 use Rattle.working_pair.proofs.Laws.Step.{moves_needs_slope}
 use Rattle.working_pair.specs.Curvature.{curvature_between}
 use Rattle.working_pair.specs.Pair.{Held, PairState}
-use Rattle.working_pair.proofs.pair.moves_with.Statement.{statement}
-use Rattle.working_pair.proofs.pair.moves_with.Tie as tie
-
-mul-gradient-i : tie.Need-overflow-mul-gradient-i
-mul-gradient-i c = search rules
-
-shared-slice-copy-out-gradient-i : tie.Need-shared-slice-copy-out-gradient-i
-shared-slice-copy-out-gradient-i c = search rules
-
-mul-gradient-j : tie.Need-overflow-mul-gradient-j
-mul-gradient-j c = search rules
-
-shared-slice-copy-out-gradient-j : tie.Need-shared-slice-copy-out-gradient-j
-shared-slice-copy-out-gradient-j c = search rules
+use Rattle.working_pair.proofs.pair.moves_with.Goals as goal
 
 -- G of both places as it was read, their difference, and twice that
 module _ {file order : List ℕ} {n : ℕ} {p : Parameters} {a : List ℕ} {g : List ℤ} {i j : ℕ} (h : PairState file order n p a g i j) where
@@ -81,58 +67,37 @@ module _ {file order : List ℕ} {n : ℕ} {p : Parameters} {a : List ℕ} {g : 
     held_is : k ≡ kernel_between p xs xs
     held_is = held.kernel ∙ (λ d. kernel_between p (sym held.features d) (sym held.features d))
 
-returns : tie.Need-returns
-returns c n a h = sym (flat h c.if1.true)
-
-fetch-requires : tie.Need-fetch-requires
-fetch-requires c κs = let p = c.before.before.before.before.before.requires.0.2 in p.state.listed.table.tabled _ p.j_within
-
-slice-aggregate-curvature-with : tie.Need-slice-aggregate-curvature-with
-slice-aggregate-curvature-with c = search rules
-
-curvature-with-requires : tie.Need-curvature-with-requires
-curvature-with-requires c κs =
-    let s = c.before.before.before.before.before.before.before.before in
-    let h = s.requires.0.2 in
+pub curvature_with-requires : goal.curvature_with-requires
+curvature_with-requires c =
+    let h = c.requires.state.2 in
     let used = h.state.listed.used in
     record {
       used = used;
-      xs_long = s.requires.1.long;
-      zs_long = omega (arith, used, slice-aggregate-curvature-with c);
-      kernel = kernel_reads s.args.kernel-ii (held_size h s.requires.1) ∙ held_is h s.requires.1;
-      kernel_size = kernel_sized s.args.kernel-ii (held_size h s.requires.1);
+      xs_long = c.requires.held.long;
+      zs_long = omega (arith, used, c.zs-2-1);
+      kernel = kernel_reads c.args.kernel_ii (held_size h c.requires.held) ∙ held_is h c.requires.held;
+      kernel_size = kernel_sized c.args.kernel_ii (held_size h c.requires.held);
     }
 
-sub-result : tie.Need-overflow-sub-result
-sub-result c =
-    let h = c.before.before.before.before.before.before.before.before.before.requires.0.2 in
-    fits_width w64 (difference_is h) (omega (arith, difference_size h))
+pub fetch-z-requires : goal.fetch-z-requires
+fetch-z-requires c = let p = c.requires.state.2 in p.state.listed.table.tabled _ p.j_within
 
-mul-result : tie.Need-overflow-mul-result
-mul-result c =
-    let h = c.before.before.before.before.before.before.before.before.before.requires.0.2 in
+pub overflow_mul-result : goal.overflow_mul-result
+overflow_mul-result c =
+    let h = c.requires.state.2 in
     fits_width w64 (twice_is h) (omega (arith, twice_size h))
 
-returns-2 : tie.Need-returns-2
-returns-2 c n a h =
-    let s = c.before.before.before.before.before.before.before.before.before in
-    let z = c.before.before.before.fetch.ensures in
-    let η = c.curvature-with.ensures in
-    let e = reads_back w64 refl (omega (arith, η.1)) ∙ η.0 ∙ (λ d. curvature_between s.args.parameters (s.requires.1.features d) (z d).features) in
+pub overflow_sub-result : goal.overflow_sub-result
+overflow_sub-result c =
+    let h = c.requires.state.2 in
+    fits_width w64 (difference_is h) (omega (arith, difference_size h))
+
+pub returns : goal.returns
+returns c n a h =
+    let z = c.fetch-z.ensures in
+    let η = c.curvature_with.ensures in
+    let e = reads_back w64 refl (omega (arith, η.1)) ∙ η.0 ∙ (λ d. curvature_between c.args.parameters (c.requires.held.features d) (z d).features) in
     λ d. lt_z (e d) (reads_back w64 (twice_is h) (omega (arith, twice_size h)) d)
 
-pub moves_with_spec : {M : Type 1} → statement M
-moves_with_spec =
-    tie.close
-    (tie.spec
-    mul-gradient-i
-    shared-slice-copy-out-gradient-i
-    mul-gradient-j
-    shared-slice-copy-out-gradient-j
-    returns
-    fetch-requires
-    slice-aggregate-curvature-with
-    curvature-with-requires
-    sub-result
-    mul-result
-    returns-2)
+pub returns-then-gradient_i-gradient_j : goal.returns-then-gradient_i-gradient_j
+returns-then-gradient_i-gradient_j c n a h = sym (flat h c.if-gradient_i-gradient_j.true)
