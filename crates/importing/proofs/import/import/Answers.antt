@@ -146,31 +146,31 @@ returns-then-not-judged c =
 pub returns-then-judged-gt-MAX_RECORDS : goal.returns-then-judged-gt-MAX_RECORDS
 returns-then-judged-gt-MAX_RECORDS c =
     let comes = refused_12 c.args.parameters c.args.text.now c.args.output.now (sym c.allowed.ensures ∙ c.if-not-allowed.false)
-    _ c.judge_text-judged.ensures (not-false _ c.if-not-judged.false) c.if-judged-gt-MAX_RECORDS.true in
+    _ c.judge_text-judged.ensures (not-false _ c.if-not-judged.false) (omega arith) in
     record { answer = comes.0; output = comes.1 }
 
 pub returns-then-judged : goal.returns-then-judged
 returns-then-judged c =
     let comes = refused_4 c.args.parameters c.args.text.now c.args.output.now (sym c.allowed.ensures ∙ c.if-not-allowed.false)
-    _ c.judge_text-judged.ensures (not-false _ c.if-not-judged.false) c.if-judged-gt-MAX_RECORDS.false c.if-judged.true in
+    _ c.judge_text-judged.ensures (not-false _ c.if-not-judged.false) (omega arith) c.if-judged.true in
     record { answer = comes.0; output = comes.1 }
 
 pub returns-then-judged-eq0 : goal.returns-then-judged-eq0
 returns-then-judged-eq0 c =
     let comes = none c.args.parameters c.args.text.now c.args.output.now (sym c.allowed.ensures ∙ c.if-not-allowed.false)
-    _ c.judge_text-judged.ensures (not-false _ c.if-not-judged.false) c.if-judged-gt-MAX_RECORDS.false c.if-judged.false c.if-judged-eq0.true in
+    _ c.judge_text-judged.ensures (not-false _ c.if-not-judged.false) (omega arith) c.if-judged.false c.if-judged-eq0.true in
     record { answer = comes.0; output = comes.1 }
 
 pub returns-then-judged-2 : goal.returns-then-judged-2
 returns-then-judged-2 c =
     let comes = all c.args.parameters c.args.text.now c.args.output.now (sym c.allowed.ensures ∙ c.if-not-allowed.false)
-    _ c.judge_text-judged.ensures (not-false _ c.if-not-judged.false) c.if-judged-gt-MAX_RECORDS.false c.if-judged.false c.if-judged-2.true in
+    _ c.judge_text-judged.ensures (not-false _ c.if-not-judged.false) (omega arith) c.if-judged.false c.if-judged-2.true in
     record { answer = comes.0; output = comes.1 }
 
 pub returns-in_default : goal.returns-in_default
 returns-in_default c =
     let comes = refused_10 c.args.parameters c.args.text.now c.args.output.now (sym c.allowed.ensures ∙ c.if-not-allowed.false)
-    _ c.judge_text-judged.ensures (not-false _ c.if-not-judged.false) c.if-judged-gt-MAX_RECORDS.false c.if-judged.false
+    _ c.judge_text-judged.ensures (not-false _ c.if-not-judged.false) (omega arith) c.if-judged.false
     c.if-judged-eq0.false c.if-judged-2.false _ _ c.file_length-length.ensures c.in_default.is in
     record { answer = comes.0; output = comes.1 }
 
@@ -178,28 +178,28 @@ pub put_header-records_at-requires : goal.put_header-records_at-requires
 put_header-records_at-requires c =
     let a = sym c.allowed.ensures ∙ c.if-not-allowed.false in
     let space = room c.args.parameters c.args.text.now c.args.output.now a
-    _ c.judge_text-judged.ensures (not-false _ c.if-not-judged.false) c.if-judged-gt-MAX_RECORDS.false c.if-judged.false _ c.in-Counted.ensures in
+    _ c.judge_text-judged.ensures (not-false _ c.if-not-judged.false) (omega arith) c.if-judged.false _ c.in-Counted.ensures in
     record { room = room_first (header_bytes _ c.args.parameters) (item_records _ _ _) space; most = (omega arith, (allowed_ranges _ a).used_greatest) }
 
 pub put_lines-requires : goal.put_lines-requires
 put_lines-requires c =
     let a = sym c.allowed.ensures ∙ c.if-not-allowed.false in
     let space = room c.args.parameters c.args.text.now c.args.output.now a
-    _ c.judge_text-judged.ensures (not-false _ c.if-not-judged.false) c.if-judged-gt-MAX_RECORDS.false c.if-judged.false _ c.in-Counted.ensures in
+    _ c.judge_text-judged.ensures (not-false _ c.if-not-judged.false) (omega arith) c.if-judged.false _ c.in-Counted.ensures in
     record {
       room = room_then c.put_header-records_at.ensures space;
       importable =
           ready c.args.parameters c.args.text.now c.args.output.now a
-          _ c.judge_text-judged.ensures (not-false _ c.if-not-judged.false) c.if-judged-gt-MAX_RECORDS.false c.if-judged.false;
+          _ c.judge_text-judged.ensures (not-false _ c.if-not-judged.false) (omega arith) c.if-judged.false;
     }
 
 pub returns : goal.returns
 returns c =
     let a = sym c.allowed.ensures ∙ c.if-not-allowed.false in
     let e = fits c.args.parameters c.args.text.now c.args.output.now a
-    _ c.judge_text-judged.ensures (not-false _ c.if-not-judged.false) c.if-judged-gt-MAX_RECORDS.false c.if-judged.false _ c.in-Counted.ensures in
+    _ c.judge_text-judged.ensures (not-false _ c.if-not-judged.false) (omega arith) c.if-judged.false _ c.in-Counted.ensures in
     let comes = written c.args.parameters c.args.text.now c.args.output.now a
-    _ c.judge_text-judged.ensures (not-false _ c.if-not-judged.false) c.if-judged-gt-MAX_RECORDS.false c.if-judged.false
+    _ c.judge_text-judged.ensures (not-false _ c.if-not-judged.false) (omega arith) c.if-judged.false
     c.if-judged-eq0.false c.if-judged-2.false _ _ _ e c.file_length-length.ensures
     (put_then c.put_header-records_at.ensures c.put_lines.ensures) in
     record { answer = comes.0; output = comes.1 }
