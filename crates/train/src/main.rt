@@ -63,6 +63,7 @@ fn read_input(reader: &mut impl Read, buffer: &mut [u8]) -> Input
 // 1 for its length, whatever bytes follow. So no further byte has to be read.
 const PLACES: usize = layout::HEADER_LENGTH + layout::RECORD_LENGTH * Parameters::MAX_RECORDS + 1;
 
+#[tactic(auto, using(crate::proofs::Laws::Cut::cut_same))]
 fn main(rt: HostRuntime) -> ExitCode {
     let mut file = [0u8; PLACES];
     let input = read_input(&mut rt.stdin(), &mut file);

@@ -1,28 +1,23 @@
--- What a read returned, by the test of its sign. Assumes nothing.
-use mathlib.Core.Path.{◌≡◌, refl, ap}
-use mathlib.Core.Bool.{true, false, true≢false}
+-- What a read returned, by which of the two it is. Assumes nothing.
+use mathlib.Core.Path.{◌≡◌, sym, ap, ◌∙◌}
 use mathlib.Core.List.{List}
 use Prim.Native.Nat.{ℕ, ◌+◌, ◌≤◌}
 use native.Mathlib.Omega.{arith}
-use lib.IntN.{ℤ, pos, negsuc}
 use lib.ListN.{length}
-use lib.Signed.{lt_z}
-use borrow.Author.Tests.{ltb-true}
-use Rattle.io.specs.Counts.{clamp_len}
+use Rattle.std.specs.Prelude.{Result, Ok, Err, min}
 use Rattle.train.specs.declared.Input.TheVariants.{Bytes, Failed}
 use Rattle.train.specs.Input.{FitsBuffer, input_of}
 
--- a negative number is an error
-pub failed_is : (got : ℤ) (places : ℕ) → lt_z got (pos 0) ≡ true → Failed ≡ input_of got places
-failed_is (pos n) places e = let below = ltb-true n 0 e in absurd (omega arith)
-failed_is (negsuc n) places e = refl
+module _ {E : Type 0} where
+  -- an error is one
+  pub failed_is : (got : Result ℕ E) (places : ℕ) (error : E) → got ≡ Err error → Failed ≡ input_of got places
+  failed_is got places error e = ap (λ r. input_of r places) (sym e)
 
--- any other counts the bytes
-pub bytes_are : (got : ℤ) (places count : ℕ) → lt_z got (pos 0) ≡ false → count ≡ clamp_len got places → Bytes count ≡ input_of got places
-bytes_are (pos n) places count e is = ap Bytes is
-bytes_are (negsuc n) places count e is = absurd (true≢false e)
+  -- any other counts the bytes
+  pub bytes_are : (got : Result ℕ E) (places n count : ℕ) → got ≡ Ok n → count ≡ min n places → Bytes count ≡ input_of got places
+  bytes_are got places n count e is = ap Bytes is ∙ ap (λ r. input_of r places) (sym e)
 
--- bytes that came into the places from `from` on fit
-pub came_fits : (from : ℕ) (got : ℤ) (places : ℕ) (buffer : List ℕ) → from + places ≤ length buffer → FitsBuffer from (input_of got places) buffer
-came_fits from (pos n) places buffer h = omega arith
-came_fits from (negsuc n) places buffer h = tt
+  -- bytes that came into the places from `from` on fit
+  pub came_fits : (from : ℕ) (got : Result ℕ E) (places : ℕ) (buffer : List ℕ) → from + places ≤ length buffer → FitsBuffer from (input_of got places) buffer
+  came_fits from (Ok n) places buffer h = omega arith
+  came_fits from (Err error) places buffer h = tt
