@@ -1,5 +1,6 @@
 -- Bounds of the form `nat_abs z ≤ N`, inside out: of a sum, a difference, a negation, a product, a sum over i < n. Two laws take such a
 -- bound to a signed width w: the number fits it, and its bits read back are the number. Assumes nothing.
+pub mod Signed
 use mathlib.Core.Path.{◌≡◌, refl, sym, ◌∙◌, ap, subst}
 use Prim.Native.Nat.{ℕ, zero, suc, ◌+◌, ◌*◌, ◌^◌, ◌≤◌, ◌<◌}
 use native.Mathlib.Nat.{le_refl, mul-le-mul}
@@ -11,6 +12,7 @@ use mir.Val.{SFits, hbits, to_z, of_z}
 use mir.Facts.{to_z-of_z}
 use Rattle.integers.proofs.Laws.Linear.{+ℤ_parts, neg_ℤ_parts, nat_abs_parts, one_part}
 use Rattle.integers.specs.Sum.{sum}
+pub use Rattle.integers.proofs.Laws.Bounds.Signed.{mag-nat_abs, fits_width}
 
 -- ---- absolute values
 pub nat_abs-neg_ℤ : (a : ℤ) → nat_abs (neg_ℤ a) ≡ nat_abs a
@@ -44,13 +46,6 @@ sum_bound zero f h = omega arith
 sum_bound (suc n) f {B} h = omega (arith, +ℤ_bound (sum n f) (f n) (sum_bound n f (λ i l. h i (omega arith))) (h n (le_refl (suc n))))
 
 -- ---- a signed width w, for a number m that is known to be z
-pub mag-nat_abs : (z : ℤ) → mag z ≤ nat_abs z
-mag-nat_abs (pos n) = le_refl n
-mag-nat_abs (negsuc n) = omega arith
-
-pub fits_width : (w : Width) {m z : ℤ} → m ≡ z → nat_abs z < 2 ^ hbits w → SFits w m
-fits_width w {m} {z} e h = subst (SFits w) (sym e) (record { sfits = omega (arith, mag-nat_abs z) })
-
 pub reads_back : (w : Width) {m z : ℤ} → m ≡ z → nat_abs z < 2 ^ hbits w → to_z w (of_z w m) ≡ z
 reads_back w {m} {z} e h = to_z-of_z {w = w} {z = m} (fits_width w e h) ∙ e
 

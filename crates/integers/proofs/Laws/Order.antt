@@ -1,5 +1,6 @@
 -- The order of ℤ: an order, total, kept by sums; sums, products and squares that aren't negative; the tests `le_z` and `lt_z` of lib.Signed as
 -- facts; inequalities by a certificate. Assumes nothing.
+pub mod Product
 use mathlib.Core.Path.{◌≡◌, refl, sym, ◌∙◌, subst}
 use mathlib.Core.Logic.{◌≢◌, ◌⊎◌, inl, inr, ⊎_elim}
 use mathlib.Core.Bool.{Bool, true, false, not}
@@ -11,6 +12,7 @@ use lib.IntN.{ℤ, pos, negsuc, ◌+ℤ◌, ◌-ℤ◌, ◌*ℤ◌}
 use lib.Signed.{le_z, lt_z, ◌≤ℤ◌, ◌<ℤ◌, le_z_yes, lt_z_yes, lt_z_no, clash_ℤ}
 use Rattle.integers.proofs.Laws.Solver.{Expr, con, ◌⊕◌, ◌⊗◌, ◌⊖◌, x₀, x₁, value, normal, solve}
 use Rattle.integers.proofs.Laws.Linear.{integer, ≡_to_parts, +ℤ_parts, -ℤ-parts}
+pub use Rattle.integers.proofs.Laws.Order.Product.{pos_nonneg, *ℤ_nonneg}
 
 -- ---- the tests, as facts and back
 pub lt_z_true : (a b : ℤ) → lt_z a b ≡ true → a <ℤ b
@@ -76,16 +78,8 @@ pub +ℤ_mono : {a b c d : ℤ} → a ≤ℤ b → c ≤ℤ d → (a +ℤ c) ≤
 +ℤ_mono {a} {b} {c} {d} h k = omega (arith, integer, +ℤ_parts a c, +ℤ_parts b d)
 
 -- ---- what isn't negative: sums, products, squares, differences. `search positivity` shows `pos 0 ≤ℤ e` by them
-pub pos_nonneg : (n : ℕ) → pos 0 ≤ℤ pos n
-pos_nonneg n = omega (arith, integer)
-
 pub +ℤ_nonneg : {a b : ℤ} → pos 0 ≤ℤ a → pos 0 ≤ℤ b → pos 0 ≤ℤ (a +ℤ b)
 +ℤ_nonneg {a} {b} h k = omega (arith, integer, +ℤ_parts a b)
-
-pub *ℤ_nonneg : {a b : ℤ} → pos 0 ≤ℤ a → pos 0 ≤ℤ b → pos 0 ≤ℤ (a *ℤ b)
-*ℤ_nonneg {a = pos a} {b = pos b} h k = pos_nonneg (a * b)
-*ℤ_nonneg {a = pos a} {b = negsuc b} h k = absurd k.le
-*ℤ_nonneg {a = negsuc a} {b} h k = absurd h.le
 
 pub square_nonneg : (a : ℤ) → pos 0 ≤ℤ (a *ℤ a)
 square_nonneg (pos a) = pos_nonneg (a * a)

@@ -1,6 +1,7 @@
 -- A solver for equations of the commutative ring ℤ, by reflection. An equation is written as two expressions over the places of a
 -- list of integers; each is brought into a normal form, a sum of monomials with their coefficients, which antt computes; where the two
 -- normal forms are the same, the two sides are equal, whatever the integers: `solve ρ left right refl`. Assumes nothing.
+pub mod Same
 use mathlib.Core.Path.{◌≡◌, refl, sym, ◌∙◌, ap}
 use mathlib.Core.Bool.{Bool, true, false}
 use mathlib.Core.List.{List, [], ◌∷◌}
@@ -9,6 +10,7 @@ use lib.Dec.{T, eqb, leb, ltb, eqb→eq}
 use lib.ListN.{get_or}
 use lib.IntN.{ℤ, pos, negsuc, neg_ℤ, ◌+ℤ◌, ◌-ℤ◌, ◌*ℤ◌, +ℤ_assoc, +ℤ_idl, +ℤ_idr, zero-*ℤ, *ℤ-zero}
 use Rattle.integers.proofs.Laws.Ring.{+ℤ_left_comm, +ℤ_swap, one-*ℤ, *ℤ_oneʳ, minus_one_*ℤ, *ℤ_assoc, *ℤ_left_comm, *ℤ_swap, *ℤ_distribˡ-+ℤ, *ℤ_distribʳ-+ℤ}
+pub use Rattle.integers.proofs.Laws.Solver.Same.{choose, same, choose_holds, same_eq}
 
 infixl 6 ◌⊕◌ ◌⊖◌
 infixl 7 ◌⊗◌
@@ -55,11 +57,6 @@ value ρ (a ⊗ b) = value ρ a *ℤ value ρ b
 value ρ (⊝ a) = neg_ℤ (value ρ a)
 
 -- ---- monomials: the places of the factors, rising
--- one of two, the other not computed
-abbrev pub choose {ℓ} : {A : Type ℓ} → Bool → (Unit {0} → A) → (Unit {0} → A) → A
-choose true f g = f tt
-choose false f g = g tt
-
 abbrev pub factor : ℕ → List ℕ → List ℕ
 factor i [] = i ∷ []
 factor i (j ∷ m) = choose (leb i j) (λ _. i ∷ j ∷ m) (λ _. j ∷ factor i m)
@@ -67,12 +64,6 @@ factor i (j ∷ m) = choose (leb i j) (λ _. i ∷ j ∷ m) (λ _. j ∷ factor 
 abbrev pub factors : List ℕ → List ℕ → List ℕ
 factors [] n = n
 factors (i ∷ m) n = factor i (factors m n)
-
-abbrev pub same : List ℕ → List ℕ → Bool
-same [] [] = true
-same [] (j ∷ n) = false
-same (i ∷ m) [] = false
-same (i ∷ m) (j ∷ n) = choose (eqb i j) (λ _. same m n) (λ _. false)
 
 -- the lexicographic order, which a common factor keeps: so `scale` needs no sorting
 abbrev pub before : List ℕ → List ℕ → Bool
@@ -117,17 +108,6 @@ normal (a ⊗ b) = multiply (normal a) (normal b)
 normal (⊝ a) = scale (negsuc 0) [] (normal a)
 
 -- ---- soundness
-choose_holds {ℓ} : {A : Type ℓ} (P : A → Type 0) (t : Bool) (f g : Unit {0} → A) → (T t → P (f tt)) → P (g tt) → P (choose t f g)
-choose_holds P true f g h k = h tt
-choose_holds P false f g h k = k
-
-same_eq : (m n : List ℕ) → T (same m n) → m ≡ n
-same_eq [] [] h = refl
-same_eq [] (j ∷ n) h = absurd h
-same_eq (i ∷ m) [] h = absurd h
-same_eq (i ∷ m) (j ∷ n) h =
-    choose_holds (λ t. T t → i ∷ m ≡ j ∷ n) (eqb i j) (λ _. same m n) (λ _. false) (λ e h. (λ k. eqb→eq i j e k ∷ same_eq m n h k)) (λ h. absurd h) h
-
 module _ (ρ : List ℤ) where
   product : List ℕ → ℤ
   product [] = pos 1

@@ -21,7 +21,7 @@ loop-i-preserved c =
       omega arith,
       rw add-one
           (all_suc _ c.loop-i.i c.loop-i.invariant.1
-          (ap (leb (at c.args.multipliers.now c.loop-i.i)) (sym ceiling_is) ∙ le-leb _ _ c.if-ceiling-multipliers.false)),
+          (ap (leb (at c.args.multipliers.now c.loop-i.i)) (sym ceiling_is) ∙ le-leb (at c.args.multipliers.now c.loop-i.i) c.ceiling.result (omega arith))),
     )
 
 pub returns-then-ceiling-multipliers : goal.returns-then-ceiling-multipliers
@@ -29,4 +29,4 @@ returns-then-ceiling-multipliers c =
     let ceiling_is = c.ceiling.ensures ∙ ap (ceiling_of c.args.parameters) c.fetch_label-label.ensures in
     sym
     (all_fails _ c.args.count c.loop-i.i c.loop-i-test.true
-    (ap (leb (at c.args.multipliers.now c.loop-i.i)) (sym ceiling_is) ∙ lt-leb _ _ c.if-ceiling-multipliers.true))
+    (ap (leb (at c.args.multipliers.now c.loop-i.i)) (sym ceiling_is) ∙ lt-leb (at c.args.multipliers.now c.loop-i.i) c.ceiling.result (omega arith)))
