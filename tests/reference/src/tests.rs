@@ -8,6 +8,7 @@ mod overlap;
 mod pool;
 mod samples;
 mod settled;
+mod settled_pools;
 mod write;
 
 use crate::cases::{Drawn, GROUPS};
