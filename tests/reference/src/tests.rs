@@ -6,6 +6,7 @@ mod chains;
 mod import;
 mod overlap;
 mod pool;
+mod pooling_samples;
 mod samples;
 mod settled;
 mod settled_pools;
