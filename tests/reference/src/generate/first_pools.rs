@@ -1,8 +1,8 @@
 //! What is pooled in each comparison, whatever the seed.
 
 use super::chains::{records, with_first, with_next};
-use super::draft::{stored, LINEAR, LOOKED_UP, OVERLAP, PASSED_OVER, SQUARE};
-use super::pooling::{in_order, Features, Pooling, OF_A_FILE};
+use super::draft::{LINEAR, LOOKED_UP, OVERLAP, PASSED_OVER, SQUARE};
+use super::pooling::{in_order, stored, Features, Pooling, OF_A_FILE};
 use super::with;
 use crate::file::{
     record_start, HIGHEST_BUDGET, HIGHEST_CEILING, HIGHEST_FEATURE, HIGHEST_TOLERANCE,
