@@ -1,5 +1,6 @@
 #!/usr/bin/env python3
-"""Makes the sample logs in the folder of this script (document 01's layout).
+"""Makes the sample logs in the folder of this script (document 01's layout), and
+those of pooling in `pooling` there.
 
 A reader stores a record when a word is met and takes records out of the chain
 when they grow old, so the chain runs through the records in any order and spare
@@ -192,8 +193,7 @@ def example():
     return header(3, 3, 1, 0, 10, 100, 0, 50) + b"".join(records)
 
 
-def samples():
-    random = Random(SEED)
+def samples(random):
     clean = log(random, words(random, 48, 25, 0), 16, 0, UNITS, 3_000, UNITS // 20, 5_000)
     noisy = log(random, words(random, 90, 0, 40), 30, 0, UNITS, 2_000, UNITS // 20, 20_000)
     square = log(random, coarser(words(random, 40, 10, 5)), 5, 1, UNITS, 3_000, UNITS // 20, 5_000)
@@ -202,9 +202,6 @@ def samples():
     fine = log(random, finer(words(random, 60, 10, 10)), 10, 0, UNITS, 1_000, UNITS // 20, 5_000)
     rare = log(random, rarely_looked_up(random, 10, 200, 50), 20, 0, UNITS, 4_000, UNITS // 20, 20_000)
     overlap = log(random, finer(middling(random, 80, 4)), 20, 2, UNITS, 3_000, UNITS // 20, 5_000)
-    last_year, this_year = two_years(random)
-    older = with_second_ceiling(log(random, last_year, 15, 0, UNITS // 4, 1_500, UNITS // 40, 5_000), 1_200)
-    newer = log(random, this_year, 10, 0, UNITS, 2_000, UNITS // 20, 20_000)
     return {
         "example": example(),
         "clean": clean,
@@ -218,6 +215,14 @@ def samples():
         "rare": rare,
         "ceilings": with_second_ceiling(rare, 200),
         "overlap": overlap,
+    }
+
+
+def pooling(random):
+    last_year, this_year = two_years(random)
+    older = with_second_ceiling(log(random, last_year, 15, 0, UNITS // 4, 1_500, UNITS // 40, 5_000), 1_200)
+    newer = log(random, this_year, 10, 0, UNITS, 2_000, UNITS // 20, 20_000)
+    return {
         "older": older,
         "newer": newer,
         "pooled": pooled(older, newer),
@@ -226,8 +231,11 @@ def samples():
 
 def main():
     folder = pathlib.Path(__file__).resolve().parent
-    for name, file in samples().items():
+    random = Random(SEED)
+    for name, file in samples(random).items():
         (folder / f"{name}.log").write_bytes(file)
+    for name, file in pooling(random).items():
+        (folder / "pooling" / f"{name}.log").write_bytes(file)
 
 
 if __name__ == "__main__":

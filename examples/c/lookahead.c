@@ -4,10 +4,8 @@
  * with a feature that none may have. Then it reads the file with a damaged
  * chain, and says which record to open. Then it writes files: the same items out
  * of memory, the small file with another budget, and one for which there is no
- * room. Then it imports a text in LIBSVM's line form, and one that is refused. At
- * the end it pools the small file with a newer one, in which a word has another
- * label, and tries that with another kernel and with a damaged chain. Which of
- * the two files is damaged it finds by reading the older one. */
+ * room. At the end it imports a text in LIBSVM's line form, and one that is
+ * refused. */
 #include <inttypes.h>
 #include <stdbool.h>
 #include <stdio.h>
@@ -229,17 +227,12 @@ static void classify(const Model *model, int8_t feature) {
     }
 }
 
-/* The file with another next number in one of its records. */
-static void put_damaged(uint8_t damaged[FILE_LENGTH], const uint8_t *file, uint16_t record,
-                        uint16_t next) {
-    memcpy(damaged, file, FILE_LENGTH);
-    put(damaged + start(record), next, 2);
-}
-
+/* Reads the file with another next number in one of its records. */
 static void read_damaged(const uint8_t *file, uint16_t record, uint16_t next) {
     uint8_t damaged[FILE_LENGTH];
     Model model;
-    put_damaged(damaged, file, record, next);
+    memcpy(damaged, file, FILE_LENGTH);
+    put(damaged + start(record), next, 2);
     printf("record %d leads to %d: ", record, next);
     read_file(&model, damaged, FILE_LENGTH);
 }
@@ -319,45 +312,6 @@ static void import_texts(void) {
     import_text("import with a fraction", parameters, "+1 1:0.5\n-1\n");
 }
 
-/* Pools two files, and where that is not refused, trains on what was written. */
-static void pool_files(const char *call, const uint8_t *older, const uint8_t *newer) {
-    uint8_t output[LOOKAHEAD_MOST_FILE];
-    size_t length;
-    lookahead_answer answer = lookahead_pool(older, FILE_LENGTH, newer, FILE_LENGTH, output,
-                                             LOOKAHEAD_MOST_FILE, &length);
-    printf("%s: ", call);
-    if (!refused(answer)) {
-        train_written(output, length);
-    }
-}
-
-/* A newer file than the small one: 1 is passed over now, 3 was looked up, and
- * there are twice as many grid units per 1. */
-static void put_newer(uint8_t newer[FILE_LENGTH], const uint8_t *older) {
-    memcpy(newer, older, FILE_LENGTH);
-    put(newer + 8, 20, 4); /* grid units per 1 */
-    put_record(newer + start(1), 0, LOOKAHEAD_LOOKED_UP, 3);
-    put_record(newer + start(3), 1, LOOKAHEAD_PASSED_OVER, 1);
-}
-
-/* The pool has three items: -1 from the older file, 1 as it is in the newer one,
- * and 3. Its parameters are the newer file's. Files of different kernels are
- * refused. The refusal for a damaged chain does not tell which of the two files
- * has it, but reading the older one does: that one is refused by itself. */
-static void pool_years(const uint8_t *older) {
-    uint8_t newer[FILE_LENGTH], changed[FILE_LENGTH];
-    Model model;
-    put_newer(newer, older);
-    pool_files("pool", older, newer);
-    memcpy(changed, older, FILE_LENGTH);
-    put(changed + 5, LOOKAHEAD_SQUARE, 1); /* kernel */
-    pool_files("pool with another kernel", changed, newer);
-    put_damaged(changed, older, 1, 3);
-    pool_files("pool with a damaged chain", changed, newer);
-    printf("read the older file: ");
-    read_file(&model, changed, FILE_LENGTH);
-}
-
 int main(void) {
     uint8_t file[FILE_LENGTH] = {0};
     const uint32_t zeros[] = {0, 0}, unbalanced[] = {5, 4};
@@ -380,6 +334,5 @@ int main(void) {
     write_items(model.reading.parameters);
     write_with_no_budget(&model);
     import_texts();
-    pool_years(file);
     return 0;
 }

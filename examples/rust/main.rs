@@ -4,10 +4,8 @@
 //! with a feature that none may have. Then it reads the file with a damaged
 //! chain, and says which record to open. Then it writes files: the same items out
 //! of memory, the small file with another budget, and one for which there is no
-//! room. Then it imports a text in LIBSVM's line form, and one that is refused. At
-//! the end it pools the small file with a newer one, in which a word has another
-//! label, and tries that with another kernel and with a damaged chain. Which of
-//! the two files is damaged it finds by reading the older one.
+//! room. At the end it imports a text in LIBSVM's line form, and one that is
+//! refused.
 
 #[path = "../../include/lookahead.rs"]
 mod declared;
@@ -16,9 +14,9 @@ mod declared;
 /// and what a call writes is a place of its own.
 mod lookahead {
     use super::declared::{
-        lookahead_certify, lookahead_classify, lookahead_import, lookahead_pool, lookahead_read,
-        lookahead_train, lookahead_write, LookaheadAnswer, LOOKAHEAD_CONVERGED,
-        LOOKAHEAD_LOOKED_UP, LOOKAHEAD_PASSED_OVER, LOOKAHEAD_STUCK,
+        lookahead_certify, lookahead_classify, lookahead_import, lookahead_read, lookahead_train,
+        lookahead_write, LookaheadAnswer, LOOKAHEAD_CONVERGED, LOOKAHEAD_LOOKED_UP,
+        LOOKAHEAD_PASSED_OVER, LOOKAHEAD_STUCK,
     };
     use std::fmt;
 
@@ -217,24 +215,6 @@ mod lookahead {
         };
         unless_refused(answer, length)
     }
-
-    /// The length of the file, which the output's first bytes hold.
-    pub fn pool(older: &[u8], newer: &[u8], output: &mut [u8]) -> Result<usize, Refusal> {
-        let mut length = 0;
-        // SAFETY: as in `read`.
-        let answer = unsafe {
-            lookahead_pool(
-                older.as_ptr(),
-                older.len(),
-                newer.as_ptr(),
-                newer.len(),
-                output.as_mut_ptr(),
-                output.len(),
-                &mut length,
-            )
-        };
-        unless_refused(answer, length)
-    }
 }
 
 use declared::{LOOKAHEAD_LINEAR, LOOKAHEAD_LOOKED_UP, LOOKAHEAD_PASSED_OVER, LOOKAHEAD_SQUARE};
@@ -416,23 +396,15 @@ fn print_contents(call: &str, read: &Contents) {
     println!("{call}: items {items}, features {used}, kernel {kernel}");
 }
 
-fn print_read(call: &str, file: &[u8]) {
-    match lookahead::read(file, &mut []) {
-        Ok(read) => print_contents(call, &read),
-        Err(refusal) => println!("{call}: {refusal}"),
-    }
-}
-
-/// The file with another next number in one of its records.
-fn damaged(file: &[u8], record: u16, next: u16) -> Vec<u8> {
+/// Reads the file with another next number in one of its records.
+fn print_damaged(file: &[u8], record: u16, next: u16) {
     let mut damaged = file.to_vec();
     damaged[start(record)..][..2].copy_from_slice(&next.to_le_bytes());
-    damaged
-}
-
-fn print_damaged(file: &[u8], record: u16, next: u16) {
     let call = format!("record {record} leads to {next}");
-    print_read(&call, &damaged(file, record, next));
+    match lookahead::read(&damaged, &mut []) {
+        Ok(read) => print_contents(&call, &read),
+        Err(refusal) => println!("{call}: {refusal}"),
+    }
 }
 
 /// What a call wrote into the output: the length of the file, which is read and
@@ -520,39 +492,6 @@ fn import_texts() -> Result<(), Refusal> {
     import_text("import with a fraction", parameters, "+1 1:0.5\n-1\n")
 }
 
-/// Pools two files, and where that is not refused, trains on what was written.
-fn pool_files(call: &str, older: &[u8], newer: &[u8]) -> Result<(), Refusal> {
-    let mut output = [0; lookahead::MOST_FILE];
-    let written = lookahead::pool(older, newer, &mut output);
-    print_written(call, written, &output)
-}
-
-/// A newer file than the small one: 1 is passed over now, 3 was looked up, and
-/// there are twice as many grid units per 1.
-fn newer_file(older: &[u8]) -> Vec<u8> {
-    let mut newer = older.to_vec();
-    newer[8..12].copy_from_slice(&20u32.to_le_bytes()); // grid units per 1
-    newer[start(1)..][..20].copy_from_slice(&record(0, LOOKAHEAD_LOOKED_UP, 3));
-    newer[start(3)..][..20].copy_from_slice(&record(1, LOOKAHEAD_PASSED_OVER, 1));
-    newer
-}
-
-/// The pool has three items: -1 from the older file, 1 as it is in the newer one,
-/// and 3. Its parameters are the newer file's. Files of different kernels are
-/// refused. The refusal for a damaged chain does not tell which of the two files
-/// has it, but reading the older one does: that one is refused by itself.
-fn pool_years(older: &[u8]) -> Result<(), Refusal> {
-    let newer = newer_file(older);
-    pool_files("pool", older, &newer)?;
-    let mut other_kernel = older.to_vec();
-    other_kernel[5] = LOOKAHEAD_SQUARE;
-    pool_files("pool with another kernel", &other_kernel, &newer)?;
-    let damaged = damaged(older, 1, 3);
-    pool_files("pool with a damaged chain", &damaged, &newer)?;
-    print_read("read the older file", &damaged);
-    Ok(())
-}
-
 fn main() -> Result<(), Refusal> {
     let file = small_file();
     let mut model = read(&file)?;
@@ -569,6 +508,5 @@ fn main() -> Result<(), Refusal> {
     print_damaged(&file, 3, 4);
     write_items(model.parameters)?;
     write_with_no_budget(&model)?;
-    import_texts()?;
-    pool_years(&file)
+    import_texts()
 }

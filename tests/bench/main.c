@@ -47,12 +47,13 @@ static size_t length;
 /* The file's items in memory, as they are handed over to be written. */
 static lookahead_item items[LOOKAHEAD_MOST_ITEMS];
 
-/* A text to import, of up to 10 MB, and the parameters of whatever is made here. */
+/* A text to import, of up to 10 MB, and the parameters that it is imported with. */
 static uint8_t text[10000000];
 static size_t text_length;
-static const lookahead_parameters MADE = {LOOKAHEAD_FEATURES, LOOKAHEAD_LINEAR, 1000, 500, 0, 10, 100};
+static const lookahead_parameters IMPORTED = {LOOKAHEAD_FEATURES, LOOKAHEAD_LINEAR, 1000, 500, 0, 10, 100};
 
-/* Two files to pool. */
+/* Two files to pool, and the parameters of both. */
+static const lookahead_parameters POOLED = {LOOKAHEAD_FEATURES, LOOKAHEAD_LINEAR, 1000, 500, 0, 10, 100};
 typedef struct {
     uint8_t bytes[LOOKAHEAD_MOST_FILE];
     size_t length;
@@ -112,7 +113,7 @@ static void make(const Calls *by, int call, Answer *x) {
     else if (call == WRITE)
         keep(x, by->write(parameters(x), items, x->items, x->output, sizeof x->output, &x->written));
     else if (call == IMPORT)
-        keep(x, by->import(MADE, text, text_length, x->output, sizeof x->output, &x->written));
+        keep(x, by->import(IMPORTED, text, text_length, x->output, sizeof x->output, &x->written));
     else
         keep(x, by->pool(older.bytes, older.length, newer.bytes, newer.length, x->output, sizeof x->output, &x->written));
 }
@@ -198,22 +199,17 @@ static void add_line(size_t number) {
     text[text_length++] = '\n';
 }
 
-/* Times a call on what was made for it, which both have to answer with this number. */
-static int time_made(int call, const char *name, uint8_t number, double *library, double *plain) {
+/* Times importing the text, which both have to answer with this number. */
+static int time_import(const char *name, uint8_t number) {
     static Answer x, z;
-    make(&LIBRARY, call, &x);
-    make(&PLAIN, call, &z);
+    double library, plain;
+    make(&LIBRARY, IMPORT, &x);
+    make(&PLAIN, IMPORT, &z);
     if (x.refusal != number || memcmp(&x, &z, sizeof x) != 0) {
         fprintf(stderr, "%s: the answers differ\n", name);
         return 0;
     }
-    measure(call, &x, library, plain);
-    return 1;
-}
-
-static int time_import(const char *name, uint8_t number) {
-    double library, plain;
-    if (!time_made(IMPORT, name, number, &library, &plain)) return 0;
+    measure(IMPORT, &x, &library, &plain);
     printf("%s, %zu bytes: import %.2f, plain %.1f MB/s\n", name, text_length, library / plain, 1e-6 * (double)text_length / plain);
     return 1;
 }
@@ -251,12 +247,20 @@ static void fill(File *made, lookahead_item of(size_t), size_t n, size_t first, 
         items[i] = of(first + i % words);
         if (i % 2 == 1) items[i].label = LOOKAHEAD_PASSED_OVER;
     }
-    plain_write(MADE, items, n, made->bytes, sizeof made->bytes, &made->length);
+    plain_write(POOLED, items, n, made->bytes, sizeof made->bytes, &made->length);
 }
 
+/* Times pooling both files, which both have to answer with this number. */
 static int time_pool(const char *name, uint8_t number) {
+    static Answer x, z;
     double library, plain;
-    if (!time_made(POOL, name, number, &library, &plain)) return 0;
+    make(&LIBRARY, POOL, &x);
+    make(&PLAIN, POOL, &z);
+    if (x.refusal != number || memcmp(&x, &z, sizeof x) != 0) {
+        fprintf(stderr, "%s: the answers differ\n", name);
+        return 0;
+    }
+    measure(POOL, &x, &library, &plain);
     printf("%s: pool %.2f, plain %.1f us\n", name, library / plain, 1e6 * plain);
     return 1;
 }

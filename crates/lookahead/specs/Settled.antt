@@ -1,7 +1,7 @@
 -- Document 01, "Settled examples": P1 to P12 as one table of inputs and results, and one theorem, by the definitions that the
--- contracts of the public calls cite. E1 to E3, K1 to K4, F1 to F6, I1 to I7, B1 to B7, C1 to C7 and H1 to H8 are our own, for requests
--- (e), (k), (f), (i), (b), (c) and (h) of document 02. Assumes nothing.
-use Rattle.std.specs.Prelude.{◌≡◌, refl, Bool, false, ℕ, ℤ, pos, negsuc, length, replicate, set, take}
+-- contracts of the public calls cite. E1 to E3, K1 to K4, F1 to F6, I1 to I7, B1 to B7 and C1 to C7 are our own, for requests (e), (k),
+-- (f), (i), (b) and (c) of document 02. Assumes nothing.
+use Rattle.std.specs.Prelude.{◌≡◌, refl, Bool, false, ℕ, ℤ, pos, negsuc, length, replicate}
 use mathlib.Core.List.{List, [], ◌∷◌, ◌++◌, flatten}
 use Rattle.std.proofs.Math.Option.{Option, none, some}
 use Rattle.integers.specs.Sum.{sum}
@@ -41,8 +41,6 @@ use Rattle.libsvm_text.specs.Form.{numeral}
 use Rattle.libsvm_text.specs.Items.{feature_in}
 use Rattle.libsvm_text.specs.Lines.{last_of, lines_from, step}
 use Rattle.importing.specs.Importing.{importing}
-use Rattle.last_items.specs.Last.{repeated, same_features, staying}
-use Rattle.pooling.specs.Pooling.{pooling}
 
 -- ---- the files, byte for byte: d 1; kernel, S, c, t, budget (each below 256); records chained in their order, by label and feature byte.
 -- Of the ceiling for label −1, two bytes that are not always 0
@@ -156,18 +154,6 @@ and_minus text = text ++ (45 ∷ 49 ∷ 32 ∷ 49 ∷ 58 ∷ 49 ∷ 10 ∷ [])
 abbrev many_lines : List ℕ → List ℕ
 many_lines last = flatten (replicate 256 (43 ∷ 49 ∷ 10 ∷ [])) ++ last
 
--- ---- what is pooled: this year's file, with the items − and feature 1, + and feature 2, and other parameters than last year's, P1's; and the
--- pool of last year's file and it
-abbrev this_year : List ℕ
-this_year = header 2 0 20 50 3 7 ++ stored 2 2 1 ++ stored 0 1 2
-
-abbrev both_years : List ℕ
-both_years = header 3 0 20 50 3 7 ++ stored 2 2 255 ++ stored 3 2 1 ++ stored 0 1 2
-
--- item + with feature 1, item − with feature 2: with the items of `both_one` after them, − with features 2 and 1 are left
-abbrev plus_one : List ℕ
-plus_one = header 2 0 10 100 0 50 ++ stored 2 1 1 ++ stored 0 2 2
-
 -- ---- the cases
 pub data Case : Type 0 where
   -- the file; ending, steps, b_low, b_up; the lent list of three 9s afterwards
@@ -184,8 +170,6 @@ pub data Case : Type 0 where
   writes : Parameters → List (List ℤ) → ℕ → Writing → Case
   -- the parameters, the text, the length of the output; the file or the refusal
   imports : Parameters → List ℕ → ℕ → Writing → Case
-  -- the older file, the newer, the length of the output; the file or the refusal
-  pools : List ℕ → List ℕ → ℕ → Writing → Case
 
 abbrev trained : List ℕ → TrainingLeft
 trained file = train_file file (replicate 3 9) (replicate 3 (pos 9))
@@ -213,7 +197,6 @@ Holds (certifies file a answer) = certifying file a ≡ answer
 Holds (classifies file a word answer v) = (classifying file a word ≡ answer) × (value (reading file) a word ≡ v)
 Holds (writes p items room answer) = writing p items room ≡ answer
 Holds (imports p text room answer) = importing p text room ≡ answer
-Holds (pools older newer room answer) = pooling older newer room ≡ answer
 
 abbrev pub AllHold : List Case → Type 0
 AllHold [] = Unit {0}
@@ -275,19 +258,11 @@ settled_examples =
     ∷ imports two_used (45 ∷ 49 ∷ 32 ∷ 49 ∷ 58 ∷ 45 ∷ 48 ∷ 10 ∷ 43 ∷ 49 ∷ 10 ∷ []) 3 (not_written (refusal 11))  -- C5, `-1 1:-0`, `+1`
     ∷ imports two_used (many_lines (45 ∷ 49 ∷ 10 ∷ [])) 3 (not_written (refusal 12))  -- C6, the last `-1`
     ∷ imports two_used (many_lines (45 ∷ 49 ∷ 32 ∷ 10 ∷ [])) 3 (not_written (refusal 11))  -- C7, the last `-1 `
-    ∷ pools (plus_minus 0 10 100 0 50) this_year 93 (wrote both_years)  -- H1
-    ∷ pools (plus_minus 0 10 100 0 50) (set this_year 4 2) 3 (not_written (refusal 14))  -- H2, d 2
-    ∷ pools (plus_minus 0 10 100 0 50) (set this_year 5 1) 3 (not_written (refusal 14))  -- H3, the square kernel
-    ∷ pools (plus_minus 0 10 100 0 50) (set (set this_year 5 1) 52 1) 3 (not_written (refusal_at 16 2))  -- H4, and record 2 leads to record 1
-    ∷ pools plus_one (both_one 0) 3 (not_written (refusal 5))  -- H5
-    ∷ pools (plus_minus 0 10 100 0 50) this_year 91 (not_written (refusal 10))  -- H6
-    ∷ pools (linked 1 0) (take 31 this_year) 3 (not_written (refusal_at 16 1))  -- H7
-    ∷ pools this_year this_year 73 (wrote this_year)  -- H8
     ∷ []
 
 pub settled : AllHold settled_examples
 unfolding
-    reading length_allowed header_allowed parameters_allowed records_met every record_allowed features_allowed labelled sum extreme first all written gradient double_sum objective amount first_candidate working_pair turn run score_with tabulate records_to writing flatten decimal.value numeral last_of step lines_from feature_in importing same_features repeated staying pooling
+    reading length_allowed header_allowed parameters_allowed records_met every record_allowed features_allowed labelled sum extreme first all written gradient double_sum objective amount first_candidate working_pair turn run score_with tabulate records_to writing flatten decimal.value numeral last_of step lines_from feature_in importing
 settled = (
   (refl, refl),
   (
@@ -306,7 +281,7 @@ settled = (
                 (refl, refl),
                 (
                   refl,
-                  ((refl, refl), (refl, (refl, (refl, ((refl, refl), ((refl, refl), ((refl, refl), ((refl, refl), ((refl, refl), (refl, (refl, (refl, (refl, ((refl, refl), ((refl, refl), ((refl, refl), (refl, (refl, (refl, ((refl, refl), ((refl, refl), ((refl, refl), ((refl, refl), (refl, ((refl, refl), ((refl, refl), ((refl, refl), (refl, (refl, (refl, (refl, (refl, (refl, (refl, (refl, (refl, (refl, (refl, (refl, (refl, (refl, (refl, (refl, (refl, (refl, (refl, (refl, (refl, (refl, (refl, (refl, (refl, (refl, tt))))))))))))))))))))))))))))))))))))))))))))))))))))),
+                  ((refl, refl), (refl, (refl, (refl, ((refl, refl), ((refl, refl), ((refl, refl), ((refl, refl), ((refl, refl), (refl, (refl, (refl, (refl, ((refl, refl), ((refl, refl), ((refl, refl), (refl, (refl, (refl, ((refl, refl), ((refl, refl), ((refl, refl), ((refl, refl), (refl, ((refl, refl), ((refl, refl), ((refl, refl), (refl, (refl, (refl, (refl, (refl, (refl, (refl, (refl, (refl, (refl, (refl, (refl, (refl, (refl, (refl, (refl, (refl, (refl, tt))))))))))))))))))))))))))))))))))))))))))))),
                 ),
               ),
             ),

@@ -1,7 +1,7 @@
 // Runs the cases of its input through the library, a line each. They are document 01's settled examples P1 to P12, with the lines the
-// results settled there, our own E1 to E3, K1 to K4, F1 to F6, I1 to I7, B1 to B7, C1 to C7 and H1 to H8, and words at the ends of the
-// range; the table is tests/reference/src/settled.rs. That the definitions give the settled results is the theorem `settled`; this shows the
-// compiled code give them.
+// results settled there, our own E1 to E3, K1 to K4, F1 to F6, I1 to I7, B1 to B7 and C1 to C7, and words at the ends of the range; the
+// table is tests/reference/src/settled.rs. That the definitions give the settled results is the theorem `settled`; this shows the compiled
+// code give them.
 #![tactic(auto)]
 
 ghost use Rattle.std.specs.Prelude.{◌≡◌, ◌+◌, ◌≤◌, length};
@@ -22,9 +22,8 @@ use writing::row::{ROW_LENGTH, Row};
 // More cases than there are.
 const MOST: usize = 100;
 
-// The bytes of a case, and where its parts are: a name and a file, or two one after the other, each part after its length; three
-// multipliers; a feature.
-const CASE: usize = 205;
+// The bytes of a case, and where its parts are: a name and a file, each after its length; three multipliers; a feature.
+const CASE: usize = 113;
 
 const NAME: usize = 0;
 
@@ -32,13 +31,13 @@ const KIND: usize = 5;
 
 const FILE: usize = 6;
 
-const FIRST: usize = 192;
+const FIRST: usize = 100;
 
-const SECOND: usize = 196;
+const SECOND: usize = 104;
 
-const THIRD: usize = 200;
+const THIRD: usize = 108;
 
-const FEATURE: usize = 204;
+const FEATURE: usize = 112;
 
 // Where the parameters and the items to write are: in the file's header and in its first two records.
 const HEADER: usize = 8;
@@ -47,7 +46,7 @@ const RECORD_1: usize = 40;
 
 const RECORD_2: usize = 60;
 
-// The kinds of a case. Any other kind pools.
+// The kinds of a case. Any other kind imports.
 const TRAIN: u8 = 0;
 
 const CERTIFY: u8 = 1;
@@ -56,14 +55,12 @@ const CLASSIFY: u8 = 2;
 
 const WRITE: u8 = 3;
 
-const IMPORT: u8 = 4;
-
 // The most items that a case has to write, more bytes than it has to import, and the most places of its output.
 const ITEMS: usize = 257;
 
 const TEXT: usize = 800;
 
-const PLACES: usize = 93;
+const PLACES: usize = 73;
 
 // A space and a number, of which the longest has a sign and 20 digits.
 fn show_number(rt: &impl Print, number: i64) -> io::Result<()> {
@@ -180,7 +177,7 @@ fn wide(byte: u8) -> usize {
 
 // The parameters of the case's header with a kernel, which is judged apart.
 fn parameters(case: &[u8], kernel: Kernel) -> Parameters
-    requires { length case.now ≡ 205 }
+    requires { length case.now ≡ 113 }
 {
     Parameters {
         used: wide(case[HEADER + layout::FEATURES_IN_USE]),
@@ -195,7 +192,7 @@ fn parameters(case: &[u8], kernel: Kernel) -> Parameters
 
 // The first item is that of record 1, every other one that of record 2.
 fn write(case: &[u8], parameters: Parameters, count: usize, output: &mut [u8]) -> Count
-    requires case_len { length case.now ≡ 205 }
+    requires case_len { length case.now ≡ 113 }
     requires count_bound { count ≤ 257 }
 {
     let mut items = [row(case, RECORD_2); ITEMS];
@@ -231,7 +228,7 @@ fn import(file: &[u8], parameters: Parameters, times: usize, output: &mut [u8]) 
 
 // Writes so many items, or imports a text with so many first lines. The places hold 9s beforehand: what is left alone shows.
 fn make_file(rt: &impl Print, case: &[u8], times: usize, places: usize) -> io::Result<()>
-    requires { length case.now ≡ 205 }
+    requires { length case.now ≡ 113 }
 {
     let answer = Kernel::from_byte(case[HEADER + layout::KERNEL]);
     let KernelAnswer::Known(kernel) = answer else {
@@ -254,21 +251,6 @@ fn make_file(rt: &impl Print, case: &[u8], times: usize, places: usize) -> io::R
     show_bytes(rt, lent)
 }
 
-// Pools two files, of which the first has so many of the bytes. The places hold 9s beforehand: what is left alone shows.
-fn pool(rt: &impl Print, files: &[u8], older: usize, places: usize) -> io::Result<()> {
-    if files.len() < older || PLACES < places {
-        return Ok(());
-    }
-    let mut output = [9u8; PLACES];
-    let lent = &mut output[0..places];
-    show_count(
-        rt,
-        lookahead::pool::pool(&files[0..older], &files[older..], lent),
-    )?;
-    print!(rt; ", output")?;
-    show_bytes(rt, lent)
-}
-
 // The bytes that come after their length, none where the case hasn't so many.
 fn part(case: &[u8], at: usize) -> &[u8]
     requires { at + 2 ≤ length case.now }
@@ -282,7 +264,7 @@ fn part(case: &[u8], at: usize) -> &[u8]
 }
 
 fn show_case(rt: &impl Print, case: &[u8]) -> io::Result<()>
-    requires { length case.now ≡ 205 }
+    requires { length case.now ≡ 113 }
 {
     rt.write_all(part(case, NAME))?;
     let file = part(case, FILE);
@@ -295,12 +277,9 @@ fn show_case(rt: &impl Print, case: &[u8]) -> io::Result<()>
         certify(rt, file, &[first, second])?;
     } else if kind == CLASSIFY {
         classify(rt, file, &[first, second], &[signed_byte(case[FEATURE])])?;
-    } else if kind == WRITE || kind == IMPORT {
+    } else {
         // How many items or first lines there are, and how many places the output has.
         make_file(rt, case, first as usize, second as usize)?;
-    } else {
-        // How long the older file is, and how many places the output has.
-        pool(rt, file, first as usize, second as usize)?;
     }
     println!(rt)
 }

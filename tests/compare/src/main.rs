@@ -159,8 +159,7 @@ impl Comparison {
             watch::at_hand(thread, number);
             let mut random = Random::numbered(self.flags.seed, number);
             let file = self.file(number, &mut random);
-            let texts = beside(&self.texts, TEXTS, number);
-            let pairs = beside(&self.pairs, PAIRS, number);
+            let (texts, pairs) = (self.texts(number), self.pairs(number));
             let compared = calls::compare(&file, texts, pairs, &mut random, &mut tally);
             self.finished.fetch_add(1, Ordering::SeqCst);
             if let Err(difference) = compared {
@@ -179,6 +178,20 @@ impl Comparison {
         }
     }
 
+    /// The texts that belong to a file's number.
+    fn texts(&self, number: u64) -> &[(first_texts::Kind, Importing)] {
+        let last = self.texts.len();
+        let start = (number as usize - 1).saturating_mul(TEXTS).min(last);
+        &self.texts[start..(start + TEXTS).min(last)]
+    }
+
+    /// The pairs of files that belong to it.
+    fn pairs(&self, number: u64) -> &[(first_pools::Kind, Pooling)] {
+        let last = self.pairs.len();
+        let start = (number as usize - 1).saturating_mul(PAIRS).min(last);
+        &self.pairs[start..(start + PAIRS).min(last)]
+    }
+
     fn file(&self, number: u64, random: &mut Random) -> Vec<u8> {
         let file = match self.systematic.get(number as usize - 1) {
             Some(file) => file.clone(),
@@ -189,11 +202,4 @@ impl Comparison {
         }
         file
     }
-}
-
-/// What of a list belongs to a file's number, where each has so many.
-fn beside<T>(list: &[T], each: usize, number: u64) -> &[T] {
-    let last = list.len();
-    let start = (number as usize - 1).saturating_mul(each).min(last);
-    &list[start..(start + each).min(last)]
 }

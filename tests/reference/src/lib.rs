@@ -22,6 +22,7 @@ mod pair;
 pub mod pool;
 mod refusal;
 pub mod settled;
+pub mod settled_pools;
 mod state;
 pub mod thresholds;
 mod training;

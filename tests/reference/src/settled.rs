@@ -1,8 +1,7 @@
 //! The one table of settled examples: document 01's P1 to P12, with P12's second
 //! half as document 02, request (e), has it; our own E1 to E3 of that request, K1
-//! to K4 of (k), F1 to F6 of (f), I1 to I7 of (i), B1 to B7 of (b), C1 to C7 of (c)
-//! and H1 to H8 of (h); and W1 to W3, words at the ends of the range, which the paper
-//! has run only.
+//! to K4 of (k), F1 to F6 of (f), I1 to I7 of (i), B1 to B7 of (b) and C1 to C7 of
+//! (c); and W1 to W3, words at the ends of the range, which the paper has run only.
 //!
 //! The results are written down and not worked out. What document 01 leaves out
 //! of one, as the thresholds of P4, is as the library's theorem `settled` has it.
@@ -31,12 +30,6 @@ pub enum Call {
     /// so often.
     Import {
         times: usize,
-        places: usize,
-    },
-    /// Pools two files, the first so many bytes of the file and those behind them, into
-    /// an output of so many places that hold 9s.
-    Pool {
-        older: usize,
         places: usize,
     },
 }
@@ -160,7 +153,6 @@ pub fn table() -> Vec<Case> {
     cases.extend(overlaps());
     cases.extend(files_written());
     cases.extend(texts_imported());
-    cases.extend(files_pooled());
     cases.extend(words_at_the_ends());
     cases
 }
@@ -233,23 +225,6 @@ fn import(
     Case {
         call,
         ..train_on(name, file, result)
-    }
-}
-
-fn pool(
-    name: &'static str,
-    older: &[u8],
-    newer: &[u8],
-    places: usize,
-    result: &'static str,
-) -> Case {
-    let call = Call::Pool {
-        older: older.len(),
-        places,
-    };
-    Case {
-        call,
-        ..train_on(name, [older, newer].concat(), result)
     }
 }
 
@@ -430,66 +405,6 @@ fn texts_imported() -> Vec<Case> {
         import("C5", "-1 1:-0\n+1\n", 1, 3, "refused 11 0, output 9 9 9"),
         import("C6", "+1\n-1\n", 256, 3, "refused 12 0, output 9 9 9"),
         import("C7", "+1\n-1 \n", 256, 3, "refused 11 0, output 9 9 9"),
-    ]
-}
-
-/// The newer file of H1: the word 1 has changed its label, and 2 is new.
-fn h1() -> Draft {
-    Draft {
-        units: 20,
-        ceiling: 50,
-        tolerance: 3,
-        budget: 7,
-        items: vec![(PASSED_OVER, vec![1]), (LOOKED_UP, vec![2])],
-        ..p1()
-    }
-}
-
-/// P1's item − −1, then both items of the newer file, with its parameters.
-const H1: &str = "length 92, output \
-    3 0 1 0 1 0 0 0 20 0 0 0 50 0 0 0 3 0 0 0 0 0 0 0 7 0 0 0 0 0 0 0 \
-    2 0 2 0 255 0 0 0 0 0 0 0 0 0 0 0 0 0 0 0 \
-    3 0 2 0 1 0 0 0 0 0 0 0 0 0 0 0 0 0 0 0 \
-    0 0 1 0 2 0 0 0 0 0 0 0 0 0 0 0 0 0 0 0 \
-    9";
-
-/// 91 places, one fewer than there are bytes in the file.
-const H6: &str = "refused 10 0, output \
-    9 9 9 9 9 9 9 9 9 9 9 9 9 9 9 9 9 9 9 9 9 9 9 9 9 9 9 9 9 9 9 9 \
-    9 9 9 9 9 9 9 9 9 9 9 9 9 9 9 9 9 9 9 9 \
-    9 9 9 9 9 9 9 9 9 9 9 9 9 9 9 9 9 9 9 9 \
-    9 9 9 9 9 9 9 9 9 9 9 9 9 9 9 9 9 9 9";
-
-/// The newer file of H1, byte for byte.
-const H8: &str = "length 72, output \
-    2 0 1 0 1 0 0 0 20 0 0 0 50 0 0 0 3 0 0 0 0 0 0 0 7 0 0 0 0 0 0 0 \
-    2 0 2 0 1 0 0 0 0 0 0 0 0 0 0 0 0 0 0 0 \
-    0 0 1 0 2 0 0 0 0 0 0 0 0 0 0 0 0 0 0 0 \
-    9";
-
-/// Request (h). H2 to H7 have a refusal each, and in all of them the output is too
-/// short. In H2 and H3 the files differ in d and in the kernel; in H4 the chain of H3's
-/// newer file leads back, too. What H5 has left, − 2 and − 1, is all passed over. In H7
-/// the older file's chain leads back, and the newer file is cut to 31 bytes.
-#[rustfmt::skip]
-fn files_pooled() -> Vec<Case> {
-    let (p1, h1) = (&p1().plain(), &h1());
-    let newer = &h1.plain();
-    let h2 = &Draft { features: 2, ..h1.clone() }.plain();
-    let h3 = &with_kernel(h1.clone(), SQUARE).plain();
-    let plus_minus = |plus, minus| Draft {
-        items: vec![(LOOKED_UP, vec![plus]), (PASSED_OVER, vec![minus])],
-        ..h1.clone()
-    }.plain();
-    vec![
-        pool("H1", p1, newer, 93, H1),
-        pool("H2", p1, h2, 3, "refused 14 0, output 9 9 9"),
-        pool("H3", p1, h3, 3, "refused 14 0, output 9 9 9"),
-        pool("H4", p1, &with_next(h3, 2, 1), 3, "refused 16 2, output 9 9 9"),
-        pool("H5", &plus_minus(1, 2), &plus_minus(1, 1), 3, "refused 5 0, output 9 9 9"),
-        pool("H6", p1, newer, 91, H6),
-        pool("H7", &with_next(p1, 1, 1), &h2[..31], 3, "refused 16 1, output 9 9 9"),
-        pool("H8", newer, newer, 73, H8),
     ]
 }
 

@@ -6,8 +6,10 @@ mod chains;
 mod import;
 mod overlap;
 mod pool;
+mod pooling_samples;
 mod samples;
 mod settled;
+mod settled_pools;
 mod write;
 
 use crate::cases::{Drawn, GROUPS};

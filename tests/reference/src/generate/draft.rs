@@ -20,21 +20,6 @@ pub fn any_feature(random: &mut Random) -> i8 {
     random.between(LOWEST_FEATURE.into(), HIGHEST_FEATURE.into()) as i8
 }
 
-/// A file of parameters and items, stored in the records that `places` names, in chain
-/// order; the other records keep the bytes of `records`.
-pub fn stored(numbers: &Numbers, rows: &[Row], places: &[usize], records: Vec<u8>) -> Vec<u8> {
-    let first = places.first().copied().unwrap_or(0);
-    let stored = records.len() / RECORD_BYTES;
-    let mut file = header(numbers, stored, first).to_vec();
-    file.extend(records);
-    for (position, (row, &place)) in rows.iter().zip(places).enumerate() {
-        let next = places.get(position + 1).copied().unwrap_or(0);
-        let start = record_start(place);
-        file[start..start + RECORD_BYTES].copy_from_slice(&record(row, next));
-    }
-    file
-}
-
 #[derive(Clone, Debug)]
 pub struct Draft {
     /// d.
@@ -63,7 +48,16 @@ impl Draft {
     /// Items stored in the records that `places` names, in chain order; the
     /// other records keep the bytes of `records`.
     pub fn stored(&self, places: &[usize], records: Vec<u8>) -> Vec<u8> {
-        stored(&self.numbers(), &self.rows(), places, records)
+        let first = places.first().copied().unwrap_or(0);
+        let stored = records.len() / RECORD_BYTES;
+        let mut file = header(&self.numbers(), stored, first).to_vec();
+        file.extend(records);
+        for (position, (row, &place)) in self.rows().iter().zip(places).enumerate() {
+            let next = places.get(position + 1).copied().unwrap_or(0);
+            let start = record_start(place);
+            file[start..start + RECORD_BYTES].copy_from_slice(&record(row, next));
+        }
+        file
     }
 
     /// The parameters as a caller hands them over.

@@ -1,14 +1,14 @@
 //! What is pooled in each comparison, whatever the seed.
 
 use super::chains::{records, with_first, with_next};
-use super::draft::{stored, LINEAR, LOOKED_UP, OVERLAP, PASSED_OVER, SQUARE};
-use super::pooling::{in_order, Features, Pooling, OF_A_FILE};
+use super::draft::{LINEAR, LOOKED_UP, OVERLAP, PASSED_OVER, SQUARE};
+use super::pooling::{in_order, stored, Features, Pooling, OF_A_FILE};
 use super::with;
 use crate::file::{
     record_start, HIGHEST_BUDGET, HIGHEST_CEILING, HIGHEST_FEATURE, HIGHEST_TOLERANCE,
     LOWEST_FEATURE, MOST_RECORDS, MOST_UNITS, RECORD_BYTES, STORED_FEATURES,
 };
-use crate::settled::{table, Call, Case};
+use crate::settled_pools::{table, Pool};
 use crate::write::{file_length, record, Numbers, Row, LABEL};
 
 /// What such a pair of files is there for.
@@ -92,15 +92,11 @@ fn row(label: u8, features: &[i8]) -> Row {
 }
 
 fn settled() -> Vec<Pooling> {
-    let pooled = |case: Case| match case.call {
-        Call::Pool { older, places } => {
-            let (older, newer) = case.file.split_at(older);
-            let call = of(older.to_vec(), newer.to_vec());
-            Some(Pooling { places, ..call })
-        }
-        _ => None,
+    let pooled = |case: Pool| Pooling {
+        places: case.places,
+        ..of(case.older, case.newer)
     };
-    table().into_iter().filter_map(pooled).collect()
+    table().into_iter().map(pooled).collect()
 }
 
 /// What is at fault with a call: the refusals of the older and of the newer file, what

@@ -12,6 +12,7 @@ pub mod multipliers;
 pub mod pooling;
 pub mod random;
 pub mod sound;
+pub mod spoilt;
 pub mod texts;
 pub mod words;
 pub mod writing;

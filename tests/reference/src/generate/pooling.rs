@@ -3,15 +3,15 @@
 //! within a file and across the two, and others differ as little as can be. Two faults
 //! at once show which test comes first.
 
-use super::damage::refused_with;
-use super::draft::{any_feature, stored, LOOKED_UP, PASSED_OVER};
+use super::draft::{any_feature, LOOKED_UP, PASSED_OVER};
 use super::random::Random;
+use super::spoilt::refused_with;
 use super::writing::{both_labels, numbers};
 use crate::file::{
-    in_range, numbers as numbers_of, read, Item, HEADER_BYTES, MOST_RECORDS, RECORD_BYTES,
-    STORED_FEATURES,
+    in_range, numbers as numbers_of, read, record_start, Item, HEADER_BYTES, MOST_RECORDS,
+    RECORD_BYTES, STORED_FEATURES,
 };
-use crate::write::{file_length, record, Numbers, Row, LABEL};
+use crate::write::{file_length, header, record, Numbers, Row, LABEL};
 use std::collections::BTreeSet;
 use std::fmt;
 
@@ -356,6 +356,21 @@ fn features_of(item: &Item) -> Features {
     let mut features = [0; STORED_FEATURES];
     features[..item.features.len()].copy_from_slice(&item.features);
     features
+}
+
+/// A file of parameters and items, stored in the records that `places` names, in chain
+/// order; the other records keep the bytes of `records`.
+pub fn stored(numbers: &Numbers, rows: &[Row], places: &[usize], records: Vec<u8>) -> Vec<u8> {
+    let first = places.first().copied().unwrap_or(0);
+    let stored = records.len() / RECORD_BYTES;
+    let mut file = header(numbers, stored, first).to_vec();
+    file.extend(records);
+    for (position, (row, &place)) in rows.iter().zip(places).enumerate() {
+        let next = places.get(position + 1).copied().unwrap_or(0);
+        let start = record_start(place);
+        file[start..start + RECORD_BYTES].copy_from_slice(&record(row, next));
+    }
+    file
 }
 
 /// A file of records 1 to n, without spares.

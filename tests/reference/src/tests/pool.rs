@@ -7,7 +7,7 @@ use crate::generate::chains::{with_label, with_next};
 use crate::generate::draft::{Draft, LOOKED_UP, OVERLAP, PASSED_OVER, SQUARE};
 use crate::generate::first_pools::{every_choice, first_pools, with_faults, Kind};
 use crate::generate::pooling::{beside, handed_in, Pooling, OF_A_FILE};
-use crate::generate::{any_file, damage, Random};
+use crate::generate::{any_file, spoilt, Random};
 use crate::pool::pool;
 use crate::settled::{f2, p1};
 use crate::write::{file_length, rows, Row, LABEL};
@@ -359,7 +359,7 @@ fn a_spoilt_file_draws_its_refusal() {
     let good = p1().stored(&[4, 2], vec![1; 5 * RECORD_BYTES]);
     for number in OF_A_FILE {
         for seed in 0..200 {
-            let file = damage::refused_with(number, &good, &mut Random::new(seed));
+            let file = spoilt::refused_with(number, &good, &mut Random::new(seed));
             assert_eq!(answer(&file, &good), number);
             assert_eq!(answer(&good, &file), number);
         }

@@ -1,10 +1,8 @@
 //! The samples: that they print what is expected, and what their README says of
-//! one ceiling and of two, of the overlap beside the linear kernel, and of two logs
-//! beside their pool.
+//! one ceiling and of two, and of the overlap beside the linear kernel.
 
-use crate::file::{read, Item, Label};
+use crate::file::{read, Label};
 use crate::generate::draft::LINEAR;
-use crate::pool::{left, pool};
 use crate::{classify, listing, run, Class};
 use std::path::PathBuf;
 
@@ -33,38 +31,36 @@ fn samples_print_what_is_expected() {
         assert_eq!(listing(&log(&format!("{name}.log"))), expected, "{name}");
         compared += 1;
     }
-    assert_eq!(compared, 15);
+    assert_eq!(compared, 12);
 }
 
-/// The classes of words by what training leaves of a log.
-fn classed(file: &[u8], words: &[Item]) -> Vec<Class> {
-    let multipliers = run(&read(file).expect("accepted")).multipliers;
+/// How many words of a label a log's own training classes as looked up, passed
+/// over and undecided.
+fn classes(file: &[u8], label: Label) -> String {
+    let problem = read(file).expect("accepted");
+    let multipliers = run(&problem).multipliers;
     let multipliers: Vec<u32> = multipliers.into_iter().map(|a| a as u32).collect();
-    let class = |word: &Item| classify(file, &multipliers, &word.features);
-    let classes = words.iter().map(|word| class(word).expect("classified"));
-    classes.collect()
-}
-
-/// How many words of a label come out as looked up, passed over and undecided.
-fn classes(file: &[u8], words: &[Item], label: Label) -> String {
-    let of_label = words.iter().filter(|word| word.label == label);
-    let classes = classed(file, &of_label.cloned().collect::<Vec<_>>());
+    let of_label = problem.items.iter().filter(|item| item.label == label);
+    let classes: Vec<Class> = of_label
+        .map(|item| classify(file, &multipliers, &item.features).expect("classified"))
+        .collect();
     [Class::LookedUp, Class::PassedOver, Class::Undecided]
         .map(|class| classes.iter().filter(|&&found| found == class).count())
         .map(|count| count.to_string())
         .join(", ")
 }
 
-/// A row of the README's tables: what a cell says of each log.
-fn assert_row(logs: &[Vec<u8>], title: &str, cell: impl Fn(&[u8]) -> String) {
+/// A row of the README's tables: what a cell says of each of two logs.
+fn assert_row(logs: &[Vec<u8>; 2], title: &str, cell: impl Fn(&[u8]) -> String) {
     let readme = std::fs::read_to_string(samples().join("README.md")).expect("the README");
-    let cells: Vec<String> = logs.iter().map(|log| cell(log)).collect();
-    let row = format!("| {title} | {} |\n", cells.join(" | "));
+    let [one, other] = [cell(&logs[0]), cell(&logs[1])];
+    let row = format!("| {title} | {one} | {other} |\n");
     assert!(readme.contains(&row), "{row}");
 }
 
-/// The rows of the listing's first and last line.
-fn assert_lines(logs: &[Vec<u8>]) {
+/// The rows that both tables have: the listing's first and last line, and the
+/// classes of the words of each label.
+fn assert_results(logs: &[Vec<u8>; 2], looked_up: &str, passed_over: &str) {
     let line = |file: &[u8], last: bool| {
         let printed = listing(file);
         let mut lines = printed.lines();
@@ -73,19 +69,8 @@ fn assert_lines(logs: &[Vec<u8>]) {
     };
     assert_row(logs, "first line", |file| line(file, false));
     assert_row(logs, "last line", |file| line(file, true));
-}
-
-/// The rows that the tables of two logs have: both lines of the listing, and the
-/// classes of the log's own words of each label.
-fn assert_results(logs: &[Vec<u8>; 2], looked_up: &str, passed_over: &str) {
-    let own = |file: &[u8], label: Label| classes(file, &words(file), label);
-    assert_lines(logs);
-    assert_row(logs, looked_up, |file| own(file, Label::LookedUp));
-    assert_row(logs, passed_over, |file| own(file, Label::PassedOver));
-}
-
-fn words(file: &[u8]) -> Vec<Item> {
-    read(file).expect("accepted").items
+    assert_row(logs, looked_up, |file| classes(file, Label::LookedUp));
+    assert_row(logs, passed_over, |file| classes(file, Label::PassedOver));
 }
 
 #[test]
@@ -118,41 +103,4 @@ fn the_readme_says_what_the_overlap_changes() {
 fn both_logs_differ_in_the_second_ceiling_alone() {
     let [one, two] = ["rare.log", "ceilings.log"].map(log);
     assert_eq!((&one[..28], &one[32..]), (&two[..28], &two[32..]));
-}
-
-#[test]
-fn the_pooled_log_is_the_pool_of_two() {
-    let [older, newer, pooled] = ["older.log", "newer.log", "pooled.log"].map(log);
-    let mut output = vec![9; pooled.len()];
-    let length = pool(&older, &newer, &mut output);
-    assert_eq!((length, output), (Ok(pooled.len()), pooled));
-}
-
-/// The words of the pool, and those of the newer log as they were met last.
-#[test]
-fn the_readme_says_what_a_pool_changes() {
-    let logs = ["older.log", "newer.log", "pooled.log"].map(log);
-    let [_, newer, pooled] = &logs;
-    assert_lines(&logs);
-    let this_years = left(&words(newer));
-    let own_side = |file: &[u8]| {
-        let classes = classed(file, &this_years).into_iter().zip(&this_years);
-        let own = |&(class, word): &(Class, &Item)| match class {
-            Class::LookedUp => word.label == Label::LookedUp,
-            Class::PassedOver => word.label == Label::PassedOver,
-            Class::Undecided => false,
-        };
-        classes.filter(own).count().to_string()
-    };
-    let title = format!(
-        "of this year's {} words, on their own side",
-        this_years.len()
-    );
-    assert_row(&logs, &title, own_side);
-    for (title, label) in [
-        ("of 34 words looked up", Label::LookedUp),
-        ("of 48 words passed over", Label::PassedOver),
-    ] {
-        assert_row(&logs, title, |file| classes(file, &words(pooled), label));
-    }
 }

@@ -3,7 +3,6 @@
 use crate::classify::doubled_score;
 use crate::file::{numbers, read, HEADER_BYTES};
 use crate::import::import;
-use crate::pool::pool;
 use crate::settled::{p9, table, with_first_line, Call, Case};
 use crate::write::{rows, write};
 use crate::{certify, classify, run, train, Class, Refusal};
@@ -16,7 +15,6 @@ fn worked_out(case: &Case) -> String {
         Call::Classify(a, word) => shown(classify(&case.file, &a, &[word]).map(class)),
         Call::Write { items, places } => written(&case.file, items, places),
         Call::Import { times, places } => imported(&case.file, times, places),
-        Call::Pool { older, places } => pooled(&case.file, older, places),
     }
 }
 
@@ -45,13 +43,6 @@ fn imported(file: &[u8], times: usize, places: usize) -> String {
     let text = with_first_line(&file[HEADER_BYTES..], times);
     let mut output = vec![9; places];
     let length = import(&numbers(file), &text, &mut output);
-    with_output(length, &output)
-}
-
-fn pooled(files: &[u8], older: usize, places: usize) -> String {
-    let (older, newer) = files.split_at(older);
-    let mut output = vec![9; places];
-    let length = pool(older, newer, &mut output);
     with_output(length, &output)
 }
 
@@ -85,19 +76,6 @@ fn every_case_is_as_settled() {
     for case in table() {
         assert_eq!(worked_out(&case), case.result, "{}", case.name);
     }
-}
-
-/// What H8 gives is the newer file itself.
-#[test]
-fn a_pool_with_itself_comes_out_byte_for_byte() {
-    let cases = table();
-    let case = cases.iter().find(|case| case.name == "H8");
-    let case = case.expect("H8");
-    let (older, newer) = case.file.split_at(case.file.len() / 2);
-    assert_eq!(older, newer);
-    let bytes: String = newer.iter().map(|byte| format!(" {byte}")).collect();
-    let whole = format!("length {}, output{bytes} 9", newer.len());
-    assert_eq!(case.result, whole);
 }
 
 /// What B1 has written is the file of P1, and B2's is its own file.

@@ -1,8 +1,8 @@
 //! The streams of `settled_test`: the table of settled examples.
 //!
-//! Its input has 205 bytes for each case, numbers with their lowest byte first:
+//! Its input has 113 bytes for each case, numbers with their lowest byte first:
 //! the length of its name in two bytes and 3 for the name; its kind in one; the
-//! length of its file in two and 184 for the file; three multipliers of four; a
+//! length of its file in two and 92 for the file; three multipliers of four; a
 //! feature in one. Training is lent the three multipliers, certifying and
 //! classifying are given the first two, and the feature is the word to classify.
 //! Writing is given the parameters in the file's header, and the items of its
@@ -10,15 +10,13 @@
 //! stands where the first multiplier does, how many places the output has where
 //! the second does. Importing is given the parameters in the file's header, and as
 //! text the bytes behind it, of which the first line is taken as often as the first
-//! multiplier says; the second is the places of the output again. Pooling is given
-//! two files that stand one after the other: the first multiplier is the length of
-//! the older one, which stands first, the second the places of the output again.
+//! multiplier says; the second is the places of the output again.
 
 use crate::{two_bytes, Streams};
 use reference::settled::{table, Call, Case};
 
 const NAME: usize = 3;
-const FILE: usize = 184;
+const FILE: usize = 92;
 
 pub fn streams() -> Streams {
     let cases = table();
@@ -37,7 +35,6 @@ fn entry(case: &Case) -> Vec<u8> {
         Call::Classify([first, second], word) => (2, [first, second, 0], word),
         Call::Write { items, places } => (3, [items as u32, places as u32, 0], 0),
         Call::Import { times, places } => (4, [times as u32, places as u32, 0], 0),
-        Call::Pool { older, places } => (5, [older as u32, places as u32, 0], 0),
     };
     let mut entry = padded(case.name.as_bytes(), NAME);
     entry.push(kind);
