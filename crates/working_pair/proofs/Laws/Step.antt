@@ -1,6 +1,7 @@
 -- Laws of the step: the room is the largest amount, a move within it keeps the multipliers feasible, and what it does to the gradients
 -- and to the objective; which pairs can move. Assumes nothing.
 pub mod Amount
+pub mod Row
 pub mod WorkingPair
 use mathlib.Core.Path.{◌≡◌, refl, sym, ◌∙◌, ap, subst}
 use mathlib.Core.Logic.{◌↔◌}

@@ -13,6 +13,7 @@ use Rattle.integers.proofs.Laws.Extremum.First.{First, first_sound, first_none, 
 use Rattle.dual_problem.specs.Problem.{Problem, gradient, up, low, b_up, b_low, at}
 use Rattle.working_pair.specs.Step.{Candidate, candidate, first_candidate, i_low, i_up, moves, some_place, working_pair}
 use Rattle.working_pair.proofs.Laws.Step.{candidate_made, candidate_low, candidate_up}
+use Rattle.working_pair.proofs.Laws.Step.Row.{row, in_row, row_false, row_true, at_place, no_place}
 
 -- ---- the pair tried first: its gradients are the thresholds
 pub b_low_attained : (P : Problem) (a : List ℕ) {i : ℕ} → i_low P a ≡ some i → b_low P (at a) ≡ gradient P (at a) i
@@ -31,63 +32,32 @@ pub record FirstCandidate (P : Problem) (a : List ℕ) (i j : ℕ) : Type 0 wher
   pub earlier_j : (l : ℕ) → l < j → candidate P a i l ≡ false
 
 module _ (P : Problem) (a : List ℕ) where
-  -- the first candidate with i, and whether there is one
-  row : ℕ → Option ℕ
-  row i = first P.count (candidate P a i)
-
-  in_row : ℕ → Bool
-  in_row i = some_place (row i)
-
-  row_false : (i : ℕ) → in_row i ≡ false → row i ≡ none
-  unfolding in_row
-  row_false i h = go (row i) h
-    where
-      go : (o : Option ℕ) → some_place o ≡ false → o ≡ none
-      go none e = refl
-      go (some j) e = clash refl e
-
-  row_true : (i : ℕ) → in_row i ≡ true → (j : ℕ) × (row i ≡ some j)
-  unfolding in_row
-  row_true i h = go (row i) h
-    where
-      go : (o : Option ℕ) → some_place o ≡ true → (j : ℕ) × (o ≡ some j)
-      go none e = clash e refl
-      go (some j) e = (j, refl)
-
-  at_place : {i j : ℕ} → first P.count in_row ≡ some i → row i ≡ some j → first_candidate P a ≡ some (i, j)
-  unfolding first_candidate in_row row
-  at_place e f = rw (e, first_candidate) (rw f)
-
-  no_place : first P.count in_row ≡ none → first_candidate P a ≡ none
-  unfolding first_candidate in_row row
-  no_place e = rw (e, first_candidate)
-
   -- what was found: the first candidate, or there is none
   Found : Option (ℕ × ℕ) → Type 0
   Found none = (i j : ℕ) → i < P.count → j < P.count → candidate P a i j ≡ false
   Found (some ij) = FirstCandidate P a ij.0 ij.1
 
-  found_at : (i j : ℕ) → First P.count in_row i → First P.count (candidate P a i) j → FirstCandidate P a i j
+  found_at : (i j : ℕ) → First P.count (in_row P a) i → First P.count (candidate P a i) j → FirstCandidate P a i j
   unfolding row
   found_at i j h g =
       record {
         i_within = h.within;
         j_within = g.within;
         is_candidate = g.passes;
-        earlier_i = λ k l m n. first_none (candidate P a k) (row_false k (h.before k m)) l n;
+        earlier_i = λ k l m n. first_none (candidate P a k) (row_false P a k (h.before k m)) l n;
         earlier_j = g.before;
       }
 
   found : Found (first_candidate P a)
   unfolding Found row
-  found = by_row (first P.count in_row) refl
+  found = by_row (first P.count (in_row P a)) refl
     where
-      by_row : (o : Option ℕ) → first P.count in_row ≡ o → Found (first_candidate P a)
-      by_row none e = subst Found (sym (no_place e)) (λ i j l m. first_none (candidate P a i) (row_false i (first_none in_row e i l)) j m)
+      by_row : (o : Option ℕ) → first P.count (in_row P a) ≡ o → Found (first_candidate P a)
+      by_row none e = subst Found (sym (no_place P a e)) (λ i j l m. first_none (candidate P a i) (row_false P a i (first_none (in_row P a) e i l)) j m)
       by_row (some i) e =
-          let h = first_sound in_row e in
-          let r = row_true i h.passes in
-          subst Found (sym (at_place e r.1)) (found_at i r.0 h (first_sound (candidate P a i) r.1))
+          let h = first_sound (in_row P a) e in
+          let r = row_true P a i h.passes in
+          subst Found (sym (at_place P a e r.1)) (found_at i r.0 h (first_sound (candidate P a i) r.1))
 
   -- the pair found is the first candidate, and none is found exactly where there is no candidate
   pub first_candidate_sound : {i j : ℕ} → first_candidate P a ≡ some (i, j) → FirstCandidate P a i j
@@ -101,8 +71,8 @@ module _ (P : Problem) (a : List ℕ) where
   pub first_candidate_complete : {i j : ℕ} → FirstCandidate P a i j → first_candidate P a ≡ some (i, j)
   unfolding in_row row
   first_candidate_complete {i} {j} h =
-      at_place
-      (first_complete in_row
+      at_place P a
+      (first_complete (in_row P a)
       (record {
         within = h.i_within;
         passes = ap some_place in_row_i;
@@ -115,7 +85,7 @@ module _ (P : Problem) (a : List ℕ) where
 
   pub first_candidate_absent : ((i j : ℕ) → i < P.count → j < P.count → candidate P a i j ≡ false) → first_candidate P a ≡ none
   unfolding in_row row
-  first_candidate_absent h = no_place (first_absent in_row (λ i l. ap some_place (first_absent (candidate P a i) (λ j m. h i j l m))))
+  first_candidate_absent h = no_place P a (first_absent (in_row P a) (λ i l. ap some_place (first_absent (candidate P a i) (λ j m. h i j l m))))
 
   -- ---- the working pair
   -- the pair tried first is taken where it moves ..
