@@ -1,7 +1,7 @@
 // A walk along the chain as a value: the borrowed file, the number reached, and how many records were met. Its functions are
 // thin: each makes the walker, takes it apart or hands it on, and leaves the work to `link`, on slice and numbers. The three at
-// the end have plain parameters, and `walks` calls those: the checker covers no function with a walker in a local, so a loop
-// keeps the number and the count, and a walker is made of them for each link.
+// the end have plain parameters, and `walks` calls those: the kit before rattle-kit-13f covered no function with a walker in a
+// local, so a loop keeps the number and the count, and a walker is made of them for each link.
 
 ghost use Rattle.std.specs.Prelude.{◌≡◌, ◌+◌, ◌<◌, ◌^◌};
 ghost use Rattle.training_file.specs.Layout.{first_record};

@@ -33,8 +33,8 @@ fn smaller_raised(x: i8, z: i8) -> i32
     if x <= z { x } else { z }
 }
 
-// What two features add to the sum that a kernel is of. At 32 bits, which a sum of sixteen such fits: the loop over them takes less than
-// half the time that it takes at 64.
+// What two features add to the sum that a kernel is of. At 32 bits, which a sum of sixteen such fits: the loop over them took less than
+// half the time that it took at 64, measured with the kit before rattle-kit-13f.
 fn summand(kernel: Kernel, x: i8, z: i8) -> i32
     ensures value { result ≡ summand_of kernel x z }
     ensures size { nat_abs result ≤ signed_most * signed_most }

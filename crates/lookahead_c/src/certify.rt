@@ -24,7 +24,7 @@ pub extern "C" fn lookahead_certify(
     let Certified::Found(thresholds) = certified else {
         return certified.refusal();
     };
-    // The checker follows a signed number that is written from a local, not from a field.
+    // Written from locals, as the kit before rattle-kit-13f asked of signed numbers.
     let b_low = thresholds.lower;
     let b_up = thresholds.upper;
     *lower = b_low;

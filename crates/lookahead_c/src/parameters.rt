@@ -32,7 +32,7 @@ impl ParameterNumbers {
     pub fn of(parameters: Parameters) -> ParameterNumbers
         ensures { result ≡ parameter_numbers parameters }
     {
-        // The checker follows an enum that is passed on from a local, not from a field.
+        // Passed on from a local, as the kit before rattle-kit-13f asked of an enum.
         let kernel = parameters.kernel;
         ParameterNumbers {
             used: parameters.used,

@@ -8,7 +8,7 @@ ghost use Rattle.lookahead_c.specs.Reading.{read_answer};
 use super::parameters::ParameterNumbers;
 use lookahead::{FileAnswer, Refusal};
 
-// It is answered by value: a struct that is lent isn't covered. After a refusal the other numbers are 0.
+// It is answered by value: the kit before rattle-kit-13f covered no struct that is lent. After a refusal the other numbers are 0.
 #[repr(C)]
 #[derive(Clone, Copy)]
 pub struct ReadAnswer {

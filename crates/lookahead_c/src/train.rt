@@ -39,7 +39,7 @@ pub extern "C" fn lookahead_train(
     let Training::Ended(trained) = training else {
         return training.refusal();
     };
-    // The checker follows a signed number or an enum that is passed on from a local, not from a field.
+    // Passed on from locals, as the kit before rattle-kit-13f asked of signed numbers and of enums.
     let why = trained.ending;
     let b_low = trained.lower;
     let b_up = trained.upper;

@@ -83,7 +83,7 @@ fn show_thresholds(rt: &impl Print, lower: i64, upper: i64) -> io::Result<()> {
 }
 
 fn show_trained(rt: &impl Print, trained: Trained) -> io::Result<()> {
-    // The checker covers a match on a local, not on a field.
+    // Matched as a local, as the kit before rattle-kit-13f asked.
     let ending = trained.ending;
     match ending {
         Ending::Converged => print!(rt; " converged")?,

@@ -12,7 +12,7 @@ unfoldable pub parts : ℕ → List ℕ → List (List ℕ)
 parts mark [] = [] ∷ []
 parts mark (byte ∷ text) = cond (eqb byte mark) ([] ∷ parts mark text) (before byte (parts mark text))
 
--- ---- what tells the parts of a text (`parts_marked`, `parts_Free`)
+-- ---- what tells the parts of a text (`parts_marked`, `parts_free`)
 
 -- each text after a mark
 unfoldable pub marked : ℕ → List (List ℕ) → List ℕ

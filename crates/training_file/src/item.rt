@@ -99,8 +99,8 @@ pub struct Item {
     pub label: Label,
 }
 
-// What `Item::new` answers: whether the label's byte and the features are allowed, and the item that they make. An enum that holds an array
-// isn't covered.
+// What `Item::new` answers: whether the label's byte and the features are allowed, and the item that they make. It is no enum, since the kit
+// before rattle-kit-13f covered none that holds an array.
 #[derive(Clone, Copy)]
 pub struct ItemAnswer {
     pub allowed: bool,
