@@ -1,4 +1,4 @@
--- How omega reads ℤ. An integer z is posPart z − negPart z, of two natural numbers. The set `integer` turns each order or equation
+-- How omega reads ℤ. An integer z is pos_part z − neg_part z, of two natural numbers. The set `integer` turns each order or equation
 -- of ℤ, in a hypothesis or in the goal, into one of those parts, and an equation for each sum, difference, negation or product that
 -- occurs (`+ℤ_parts a b`) goes into omega's list: `omega (arith, integer, +ℤ_parts a b)`. Assumes nothing.
 use mathlib.Core.Path.{◌≡◌, refl, sym, ◌∙◌, ap}

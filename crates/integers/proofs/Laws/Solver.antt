@@ -177,7 +177,7 @@ module _ (ρ : List ℤ) where
   pub solve : (a b : Expr) → normal a ≡ normal b → value ρ a ≡ value ρ b
   solve a b h = sym (total_normal a) ∙ ap total h ∙ total_normal b
 
--- ---- examples, with the time that each adds to a check (one core, the mean of many copies of it)
+-- ---- examples, with the time that each added to a check (one core, the mean of many copies of it), measured with the kit before rattle-kit-13f
 -- two variables, degree two: 0.002 s
 square_of_sum : (a b : ℤ) → (a +ℤ b) *ℤ (a +ℤ b) ≡ a *ℤ a +ℤ pos 2 *ℤ (a *ℤ b) +ℤ b *ℤ b
 square_of_sum a b = solve (a ∷ b ∷ []) ((x₀ ⊕ x₁) ⊗ (x₀ ⊕ x₁)) (x₀ ⊗ x₀ ⊕ con (pos 2) ⊗ (x₀ ⊗ x₁) ⊕ x₁ ⊗ x₁) refl
