@@ -8,7 +8,6 @@ ghost use Rattle.train.specs.Input.{FitsBuffer, input_of};
 
 use std::io;
 use std::io::{Read, Write};
-use std::process::ExitCode;
 use training_file::layout;
 use training_file::parameters::Parameters;
 
@@ -64,18 +63,16 @@ fn read_input(reader: &mut impl Read, buffer: &mut [u8]) -> Input
 const PLACES: usize = layout::HEADER_LENGTH + layout::RECORD_LENGTH * Parameters::MAX_RECORDS + 1;
 
 #[tactic(auto, using(crate::proofs::Laws::Cut::cut_same))]
-fn main(rt: HostRuntime) -> ExitCode {
+fn main(rt: HostRuntime) {
     let mut file = [0u8; PLACES];
     let input = read_input(&mut rt.stdin(), &mut file);
     let Input::Bytes(count) = input else {
         let _ = rt.eprintln("train: standard input cannot be read");
-        return ExitCode::FAILURE;
+        return;
     };
     let mut out = [0u8; listing::list::PLACES];
     let end = listing::list::list(&file[..count], &mut out);
     if rt.stdout().write_all(&out[..end]).is_err() {
         let _ = rt.eprintln("train: standard output cannot be written");
-        return ExitCode::FAILURE;
     }
-    ExitCode::SUCCESS
 }
