@@ -1,5 +1,6 @@
 -- `classifying::word::word_item` meets its contract. The loop's invariant: the first i places hold the word's features, the later ones 0.
 -- Assumes nothing.
+use borrow.Author.Rules.{rules}
 use mathlib.Core.Path.{◌≡◌, refl, sym, ◌∙◌, ap}
 use mathlib.Core.List.{List}
 use Prim.Native.Nat.{ℕ, ◌≤◌, ◌<◌}
@@ -39,7 +40,7 @@ loop-i-init c = (omega arith, refl)
 
 pub loop-i-preserved : goal.loop-i-preserved
 unfolding written
-loop-i-preserved c = (omega arith, rw add-one (λ k. set (c.loop-i.invariant.1 k) c.loop-i.i (reads_element w8 (get_or c.args.word.now c.loop-i.i (pos 0)) c.features-1.given k)))
+loop-i-preserved c = (omega arith, rw add-one (λ k. set (c.loop-i.invariant.1 k) c.loop-i.i (reads_element w8 (get_or c.args.word.now c.loop-i.i (pos 0)) (search rules) k)))
 
 pub returns-clause-allowed : goal.returns-clause-allowed
 returns-clause-allowed c =

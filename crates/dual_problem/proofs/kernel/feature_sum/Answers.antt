@@ -1,5 +1,6 @@
 -- `dual_problem::kernel::feature_sum` meets its contract. The loop's invariant: `sum` holds the sum over the first p features, which
 -- is at most p times 128 × 128. Assumes nothing.
+use borrow.Author.Rules.{rules}
 use mathlib.Core.List.{List}
 use mathlib.Core.Path.{◌≡◌, refl, ◌∙◌, subst}
 use Prim.Native.Nat.{ℕ, ◌+◌, ◌*◌, ◌≤◌}
@@ -36,7 +37,7 @@ module _ (c : goal.After-summand-sum) where
 
   place_is : c.summand-sum.result ≡ f (get_or xs p (pos 0)) (get_or zs p (pos 0))
   unfolding xs zs p f
-  place_is = c.summand-sum.ensures.value ∙ (λ i. f (reads_element w8 (get_or xs p (pos 0)) c.summand-arg-1.given i) (reads_element w8 (get_or zs p (pos 0)) c.summand-arg-in-loop-p-1.given i))
+  place_is = c.summand-sum.ensures.value ∙ (λ i. f (reads_element w8 (get_or xs p (pos 0)) (search rules) i) (reads_element w8 (get_or zs p (pos 0)) (search rules) i))
 
   place_size : nat_abs (f (get_or xs p (pos 0)) (get_or zs p (pos 0))) ≤ signed_most * signed_most
   unfolding xs zs p f

@@ -1,5 +1,6 @@
 -- `thresholds::extremes::find_extremes` meets its contract. The loop's invariant: `low` and `up` are the places of the first i that
 -- attain the thresholds. Assumes nothing.
+use borrow.Author.Rules.{rules}
 use mathlib.Core.Path.{◌≡◌, refl, sym, ◌∙◌, ap}
 use mathlib.Core.Logic.{◌⊎◌, inl, inr, ⊎_elim}
 use mathlib.Core.Option.{Option}
@@ -41,7 +42,7 @@ loop-i-preserved c =
     let i = c.loop-i.i in
     let inv = c.loop-i.invariant in
     let sets = c.sets_at-sets.ensures in
-    let value_is : to_z w64 (of_z w64 (g i)) ≡ g i = reads_element w64 (g i) c.value-1.given in (
+    let value_is : to_z w64 (of_z w64 (g i)) ≡ g i = reads_element w64 (g i) (search rules) in (
       omega arith,
       rw add-one
           (turn false g (extreme (comes_first false) i (low P a) g) i

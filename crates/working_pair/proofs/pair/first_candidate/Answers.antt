@@ -56,10 +56,6 @@ module _ (P : Problem) (a : List ℕ) (i : ℕ) {sets : Sets} (sets_is : sets �
           earlier_j = λ l m. candidate_is member l ∙ f.before l m;
         })
 
-not_at : (r : Partner) → ((j : ℕ) → r ≡ partner.At j → ⊥) → r ≡ partner.Nothing
-not_at partner.Nothing n = refl
-not_at (partner.At j) n = absurd (n j refl)
-
 pub loop-i-preserved : goal.loop-i-preserved
 loop-i-preserved c =
     let P = problem_of c.args.file.now c.args.parameters in

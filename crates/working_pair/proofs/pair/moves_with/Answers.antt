@@ -74,7 +74,7 @@ curvature_with-requires c =
     record {
       used = used;
       xs_long = c.requires.held.long;
-      zs_long = omega (arith, used, c.zs-2-1);
+      zs_long = omega (arith, used);
       kernel = kernel_reads c.args.kernel_ii (held_size h c.requires.held) ∙ held_is h c.requires.held;
       kernel_size = kernel_sized c.args.kernel_ii (held_size h c.requires.held);
     }

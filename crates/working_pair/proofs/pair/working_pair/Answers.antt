@@ -21,7 +21,6 @@ use Rattle.working_pair.specs.State.{State}
 use Rattle.working_pair.specs.Pair.{PairState, pair_of}
 use Rattle.working_pair.proofs.Laws.Step.WorkingPair.{working_pair_tried, working_pair_fallback}
 use Rattle.working_pair.proofs.pair.working_pair.Goals as goal
-use Rattle.thresholds.specs.declared.extremes.Best.{Best}
 use Rattle.working_pair.specs.Pair.{TellsMoves}
 
 -- what a best place says of what was found
@@ -76,10 +75,6 @@ module _ {file order : List ℕ} {n : ℕ} {p : Parameters} {a : List ℕ} {g : 
   -- what the test answered
   moves_is : {i j : ℕ} {v w : ℤ} → extremes.low ≡ best.At i v → extremes.up ≡ best.At j w → {r t : Bool} → TellsMoves file order p g i j r → r ≡ t → moves P a i j ≡ t
   moves_is e f h r = sym (h n a (tried e f)) ∙ r
-
-not_at : (b : Best) → ((i : ℕ) → (v : ℤ) → b ≡ best.At i v → ⊥) → b ≡ best.Nothing
-not_at best.Nothing n = refl
-not_at (best.At i v) n = absurd (n i v refl)
 
 pub pair_moves-requires : goal.pair_moves-requires
 pair_moves-requires c = (c.args.count, c.args.multipliers.now, tried c.requires.state c.args.extremes c.requires.extremes c.in-At.is c.in-At-up.is)

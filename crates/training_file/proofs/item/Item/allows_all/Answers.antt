@@ -1,4 +1,5 @@
 -- `training_file::item::Item::allows_all` meets its contract. Assumes nothing.
+use borrow.Author.Rules.{rules}
 use Rattle.std.proofs.Common.{◌≡◌, sym, ap, ◌∙◌, arith, refl, add-one, pos, get_or}
 use mir.Syntax.{w8}
 use Rattle.integers.specs.Places.{all}
@@ -21,14 +22,14 @@ loop-i-init c = (omega arith, refl)
 pub returns-then-not-allows : goal.returns-then-not-allows
 unfolding features_allowed
 returns-then-not-allows c =
-    let answer : allowed_at c.args.features c.loop-i.i ≡ c.allows.result = sym (c.allows.ensures ∙ ap feature_allowed (reads_element w8 (get_or c.args.features c.loop-i.i (pos 0)) c.allows-arg-1.given)) in
+    let answer : allowed_at c.args.features c.loop-i.i ≡ c.allows.result = sym (c.allows.ensures ∙ ap feature_allowed (reads_element w8 (get_or c.args.features c.loop-i.i (pos 0)) (search rules))) in
     sym
     (&&_false_left (zero_past c.args.used c.args.features)
     (all_fails (allowed_at c.args.features) feature_count c.loop-i.i (omega arith) (answer ∙ c.if-not-allows.true)))
 
 pub loop-i-preserved : goal.loop-i-preserved
 loop-i-preserved c =
-    let answer : allowed_at c.args.features c.loop-i.i ≡ c.allows.result = sym (c.allows.ensures ∙ ap feature_allowed (reads_element w8 (get_or c.args.features c.loop-i.i (pos 0)) c.allows-arg-1.given)) in
+    let answer : allowed_at c.args.features c.loop-i.i ≡ c.allows.result = sym (c.allows.ensures ∙ ap feature_allowed (reads_element w8 (get_or c.args.features c.loop-i.i (pos 0)) (search rules))) in
     (omega arith, rw add-one (all_suc (allowed_at c.args.features) c.loop-i.i c.loop-i.invariant.1 (answer ∙ c.if-not-allows.false)))
 
 pub returns : goal.returns

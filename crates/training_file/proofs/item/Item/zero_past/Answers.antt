@@ -1,11 +1,10 @@
 -- `training_file::item::Item::zero_past` meets its contract. The loop's invariant: `end` is past the last of the places passed that is not 0.
 -- Assumes nothing.
-use mathlib.Core.Path.{◌≡◌, refl, sym, ap, ◌∙◌, subst}
+use mathlib.Core.Path.{◌≡◌, refl, sym, subst}
 use mathlib.Core.Bool.{Bool, true, false}
 use mathlib.Core.List.{List}
 use Prim.Native.Nat.{ℕ, suc, ◌+◌, ◌-◌}
 use native.Mathlib.Omega.{arith}
-use borrow.Author.Count.{below_more}
 use borrow.Author.Tests.{leb-true, leb-false}
 use lib.Dec.{leb}
 use lib.IntN.{ℤ}
@@ -16,14 +15,6 @@ use Rattle.training_file.proofs.item.Item.zero_past.Invariants.{zero_at, Ends}
 use Rattle.training_file.proofs.item.Item.zero_past.Goals as goal
 
 module _ (features : List ℤ) where
-  -- one place more
-  ends_here : (i : ℕ) → zero_at features i ≡ false → Ends features (i + 1) (i + 1)
-  ends_here i h =
-      (omega arith, λ k l u. absurd (omega arith), λ k e. let here : k ≡ i = omega arith in ap (zero_at features) here ∙ h)
-
-  ends_before : (end i : ℕ) → Ends features end i → zero_at features i ≡ true → Ends features end (i + 1)
-  ends_before end i ends h = (omega arith, below_more _ i ends.1 (λ u. h), ends.2)
-
   -- the features past the first d are 0 where `end` is not past these
   ends_decides : (end d : ℕ) → Ends features end feature_count → leb end d ≡ zero_past d features
   ends_decides end d ends = by (leb end d) refl
