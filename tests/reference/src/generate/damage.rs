@@ -4,6 +4,7 @@
 use super::chains::{chain, records, with_first, with_label, with_next};
 use super::draft::{any_feature, Draft, LINEAR, LOOKED_UP, NO_FEATURE, PASSED_OVER};
 use super::random::Random;
+use super::spoilt::with_header_beyond;
 use super::with;
 use crate::file::{
     record_start, HEADER_BYTES, HIGHEST_FEATURE, LOWEST_FEATURE, MOST_RECORDS, RECORD_BYTES,
@@ -196,19 +197,7 @@ impl Base {
 
     /// Refusal 2.
     fn headers(&self) -> Vec<Vec<u8>> {
-        let at = |start: usize, bytes: &[u8]| with(&self.file, start, bytes);
-        let mut files = vec![at(2, &[7, 0]), at(2, &[255, 255]), at(2, &[4, 1])];
-        files.extend([0, 17, 255].map(|d| at(4, &[d])));
-        files.extend([3, 255].map(|kernel| at(5, &[kernel])));
-        files.extend([6, 7].map(|spare| at(spare, &[1])));
-        files.extend([6, 7].map(|spare| at(spare, &[128])));
-        files.extend([0, 1_048_577, u32::MAX].map(|units: u32| at(8, &units.to_le_bytes())));
-        files.extend([0, 65_537, u32::MAX].map(|ceiling: u32| at(12, &ceiling.to_le_bytes())));
-        files.extend([1_000_000_000_001, 1 << 63, u64::MAX].map(|t: u64| at(16, &t.to_le_bytes())));
-        files.extend([1_000_001, u32::MAX].map(|budget: u32| at(24, &budget.to_le_bytes())));
-        let seconds = [65_537, 65_792, 1 << 17, 1 << 24, 1 << 31, u32::MAX];
-        files.extend(seconds.map(|second: u32| at(28, &second.to_le_bytes())));
-        files
+        with_header_beyond(&self.file)
     }
 
     /// Refusals 3 and 16: a next number over m or of a record already met, from

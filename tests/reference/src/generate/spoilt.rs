@@ -10,7 +10,7 @@ use crate::file::{record_start, HEADER_BYTES, MOST_RECORDS, RECORD_BYTES, STORED
 
 /// Refusal 2: the file with each field of its header beyond its range, and with each
 /// spare byte not 0.
-fn with_header_beyond(file: &[u8]) -> Vec<Vec<u8>> {
+pub(super) fn with_header_beyond(file: &[u8]) -> Vec<Vec<u8>> {
     let at = |start: usize, bytes: &[u8]| with(file, start, bytes);
     let over = with_first(file, records(file) + 1);
     let mut files = vec![over, at(2, &[255, 255]), at(2, &[4, 1])];

@@ -1,41 +1,18 @@
 //! The samples of pooling: that they print what is expected, that the pooled log is
 //! the pool of the two, and what their README says of the two beside it.
 
+use super::samples::{compared, log, samples};
 use crate::file::{read, Item, Label};
 use crate::pool::{left, pool};
 use crate::{classify, listing, run, Class};
-use std::path::PathBuf;
-
-fn samples() -> PathBuf {
-    PathBuf::from(concat!(
-        env!("CARGO_MANIFEST_DIR"),
-        "/../../samples/pooling"
-    ))
-}
-
-fn log(name: &str) -> Vec<u8> {
-    std::fs::read(samples().join(name)).expect("a sample")
-}
 
 fn logs() -> [Vec<u8>; 3] {
-    ["older.log", "newer.log", "pooled.log"].map(log)
+    ["older", "newer", "pooled"].map(|name| log(&format!("pooling/{name}.log")))
 }
 
 #[test]
 fn samples_of_pooling_print_what_is_expected() {
-    let mut compared = 0;
-    for entry in std::fs::read_dir(samples()).expect("the samples") {
-        let path = entry.expect("a name").path();
-        if path.extension() != Some("log".as_ref()) {
-            continue;
-        }
-        let name = path.file_stem().expect("a name").to_string_lossy();
-        let expected = samples().join(format!("expected/{name}.txt"));
-        let expected = std::fs::read_to_string(expected).expect("a listing");
-        assert_eq!(listing(&log(&format!("{name}.log"))), expected, "{name}");
-        compared += 1;
-    }
-    assert_eq!(compared, 3);
+    assert_eq!(compared(samples().join("pooling")), 3);
 }
 
 #[test]
@@ -67,7 +44,7 @@ fn classes(file: &[u8], words: &[Item], label: Label) -> String {
 
 /// A row of the README's table: what a cell says of each log.
 fn assert_row(logs: &[Vec<u8>], title: &str, cell: impl Fn(&[u8]) -> String) {
-    let readme = std::fs::read_to_string(samples().join("README.md")).expect("the README");
+    let readme = std::fs::read_to_string(samples().join("pooling/README.md")).expect("the README");
     let cells: Vec<String> = logs.iter().map(|log| cell(log)).collect();
     let row = format!("| {title} | {} |\n", cells.join(" | "));
     assert!(readme.contains(&row), "{row}");

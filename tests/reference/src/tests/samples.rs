@@ -9,29 +9,35 @@ use std::path::PathBuf;
 /// Where the header has the kernel.
 const KERNEL: usize = 5;
 
-fn samples() -> PathBuf {
+pub(super) fn samples() -> PathBuf {
     PathBuf::from(concat!(env!("CARGO_MANIFEST_DIR"), "/../../samples"))
 }
 
-fn log(name: &str) -> Vec<u8> {
+pub(super) fn log(name: &str) -> Vec<u8> {
     std::fs::read(samples().join(name)).expect("a sample")
 }
 
-#[test]
-fn samples_print_what_is_expected() {
+/// How many logs a folder has, each of which prints what is expected.
+pub(super) fn compared(folder: PathBuf) -> usize {
     let mut compared = 0;
-    for entry in std::fs::read_dir(samples()).expect("the samples") {
+    for entry in std::fs::read_dir(&folder).expect("the samples") {
         let path = entry.expect("a name").path();
         if path.extension() != Some("log".as_ref()) {
             continue;
         }
         let name = path.file_stem().expect("a name").to_string_lossy();
-        let expected = samples().join(format!("expected/{name}.txt"));
+        let expected = folder.join(format!("expected/{name}.txt"));
         let expected = std::fs::read_to_string(expected).expect("a listing");
-        assert_eq!(listing(&log(&format!("{name}.log"))), expected, "{name}");
+        let printed = listing(&std::fs::read(&path).expect("a sample"));
+        assert_eq!(printed, expected, "{name}");
         compared += 1;
     }
-    assert_eq!(compared, 12);
+    compared
+}
+
+#[test]
+fn samples_print_what_is_expected() {
+    assert_eq!(compared(samples()), 12);
 }
 
 /// How many words of a label a log's own training classes as looked up, passed
