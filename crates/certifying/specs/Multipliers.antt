@@ -1,13 +1,11 @@
 -- Document 01, refusals 6 to 8: judging multipliers against a problem. Assumes nothing.
-use Rattle.std.specs.Prelude.{Bool, cond, List, ℕ, leb, eqb, ℤ, pos, ◌*ℤ◌, length}
+use Rattle.std.specs.Prelude.{Bool, cond, List, ℕ, leb, eqb, ℤ, pos, ◌*ℤ◌, length, Result, Ok, Err}
 use Rattle.integers.specs.Zero.{is_zero}
 use Rattle.integers.specs.Places.{all}
 use Rattle.integers.specs.Sum.{sum}
 use Rattle.training_file.specs.declared.refusal.Refusal.{Refusal}
-use Rattle.training_file.specs.Refusal.{no_refusal, refusal}
+use Rattle.training_file.specs.declared.refusal.Refusal.TheVariants as refusal
 use Rattle.dual_problem.specs.Problem.{Problem, y, at}
-use Rattle.certifying.specs.declared.multipliers.Judgement.{Judgement}
-use Rattle.certifying.specs.declared.multipliers.Judgement.TheVariants.{Refused, Feasible}
 
 -- the sum of a_i × y_i
 abbrev pub balance : Problem → (ℕ → ℕ) → ℤ
@@ -18,15 +16,10 @@ abbrev pub within_ceilings : ℕ → Problem → (ℕ → ℕ) → Bool
 within_ceilings n P a = all n (λ i. leb (a i) (P.ceiling i))
 
 -- "6: .. multipliers not n in number; 7: a multiplier over c; 8: the sum of a × y is not 0", the first that applies
-abbrev pub judgement : Problem → List ℕ → Judgement
+abbrev pub judgement : Problem → List ℕ → Result Unit Refusal
 judgement P a =
     cond (eqb (length a) P.count)
     (cond (within_ceilings P.count P (at a))
-    (cond (is_zero (balance P (at a))) Feasible (Refused (refusal 8)))
-    (Refused (refusal 7)))
-    (Refused (refusal 6))
-
--- the refusal that a judgement is
-abbrev pub judgement_refusal : Judgement → Refusal
-judgement_refusal (Refused why) = why
-judgement_refusal Feasible = no_refusal
+    (cond (is_zero (balance P (at a))) (Ok tt) (Err refusal.Balance))
+    (Err refusal.Multiplier))
+    (Err refusal.ListLength)

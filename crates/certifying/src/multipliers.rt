@@ -1,90 +1,49 @@
 // Judging multipliers against the items of a read file (document 01, refusals 6 to 8).
 
 ghost use Rattle.std.specs.Prelude.{◌≡◌, ◌≤◌, length};
-ghost use Rattle.training_file.specs.declared.parameters.Parameters.{Parameters};
-ghost use Rattle.dual_problem.specs.FileProblem.{Listed, problem_of};
 ghost use Rattle.dual_problem.specs.Problem.{at};
-ghost use Rattle.certifying.specs.Multipliers.{balance, judgement, judgement_refusal, within_ceilings};
+ghost use Rattle.dual_problem.specs.Given.{count_in, problem_in};
+ghost use Rattle.certifying.specs.Multipliers.{balance, judgement, within_ceilings};
 
 use dual_problem::label::{ceiling, with_sign};
-use reading::reader::fetch_label;
-use training_file::parameters::Parameters;
+use dual_problem::problem::FileProblem;
 use training_file::refusal::Refusal;
 
-#[derive(Clone, Copy)]
-pub enum Judgement {
-    Refused(Refusal),
-    Feasible,
-}
-
-impl Judgement {
-    // The refusal, where this is one.
-    pub fn refusal(self) -> Refusal
-        ensures { result ≡ judgement_refusal self }
-    {
-        match self {
-            Judgement::Refused(refusal) => refusal,
-            Judgement::Feasible => Refusal::NONE,
-        }
-    }
-}
-
 // Whether no multiplier is over its item's ceiling.
-fn within_ceilings(
-    file: &[u8],
-    order: &[u16],
-    count: usize,
-    parameters: Parameters,
-    multipliers: &[u32],
-) -> bool
-    requires { Listed file.now order.now count × (count ≤ length multipliers.now) }
-    ensures { result ≡ within_ceilings count (problem_of file.now parameters) (at multipliers.now) }
+fn within_ceilings(problem: &FileProblem, multipliers: &[u32]) -> bool
+    requires { count_in problem.now ≤ length multipliers.now }
+    ensures { result ≡ within_ceilings (count_in problem.now) (problem_in problem.now) (at multipliers.now) }
 {
-    let mut i = 0;
-    while i < count {
-        let label = fetch_label(file, order, i);
-        if ceiling(parameters, label) < multipliers[i] {
-            return false;
-        }
-        i += 1;
-    }
-    true
+    (0..problem.count()).all(|place| {
+        let most = ceiling(problem.parameters, problem.label(place));
+        multipliers[place] <= most
+    })
 }
 
 // The sum of the multipliers, each with its label's sign.
-fn signed_sum(file: &[u8], order: &[u16], count: usize, multipliers: &[u32]) -> i64
-    requires { Listed file.now order.now count × (count ≤ length multipliers.now) }
-    ensures { (p : Parameters) → result ≡ balance (problem_of file.now p) (at multipliers.now) }
+fn signed_sum(problem: &FileProblem, multipliers: &[u32]) -> i64
+    requires { count_in problem.now ≤ length multipliers.now }
+    ensures { result ≡ balance (problem_in problem.now) (at multipliers.now) }
 {
     let mut sum: i64 = 0;
-    let mut i = 0;
-    while i < count {
-        let label = fetch_label(file, order, i);
-        sum += with_sign(multipliers[i], label);
-        i += 1;
+    for i in 0..problem.count() {
+        sum += with_sign(multipliers[i], problem.label(i));
     }
     sum
 }
 
-// Whether the multipliers are feasible, or the first refusal that applies to them.
-pub fn judge_multipliers(
-    file: &[u8],
-    order: &[u16],
-    count: usize,
-    parameters: Parameters,
-    multipliers: &[u32],
-) -> Judgement
-    requires { Listed file.now order.now count }
-    ensures { result ≡ judgement (problem_of file.now parameters) multipliers.now }
+// Whether the multipliers are feasible; the first refusal that applies to them, where they are not.
+pub fn judge_multipliers(problem: &FileProblem, multipliers: &[u32]) -> Result<(), Refusal>
+    ensures { result ≡ judgement (problem_in problem.now) multipliers.now }
 {
-    if multipliers.len() != count {
-        return Judgement::Refused(Refusal::LIST_LENGTH);
+    if multipliers.len() != problem.count() {
+        return Err(Refusal::ListLength);
     }
-    if !within_ceilings(file, order, count, parameters, multipliers) {
-        return Judgement::Refused(Refusal::MULTIPLIER);
+    if !within_ceilings(problem, multipliers) {
+        return Err(Refusal::Multiplier);
     }
-    if signed_sum(file, order, count, multipliers) != 0 {
-        return Judgement::Refused(Refusal::BALANCE);
+    if signed_sum(problem, multipliers) != 0 {
+        return Err(Refusal::Balance);
     }
-    Judgement::Feasible
+    Ok(())
 }

@@ -1,15 +1,15 @@
 -- What the stages of reading answer that walk the chain, each by the definition that it works out, and what a later stage relies on. Assumes
 -- nothing.
-use Rattle.std.specs.Prelude.{◌≡◌, cond, List, [], ◌++◌, map, ℕ, ◌+◌, leb, eqb, length, take, drop}
+use Rattle.std.specs.Prelude.{◌≡◌, cond, List, [], ◌++◌, map, ℕ, ◌+◌, leb, eqb, length, take, drop, Result, Ok, Err}
+use Rattle.training_file.specs.declared.refusal.Refusal.{Refusal}
+use Rattle.training_file.specs.declared.refusal.Refusal.TheVariants as refusal
 use Rattle.training_file.specs.declared.item.Label.TheVariants.{LookedUp}
 use Rattle.training_file.specs.Refusal.{refusal_at}
 use Rattle.training_file.specs.Layout.{next_of, records_stored}
 use Rattle.training_file.specs.Item.{labelled}
 use Rattle.training_file.specs.Header.{WholeFile}
 use Rattle.training_file.specs.Record.{every, item_at, record_allowed}
-use Rattle.training_file.specs.Answers.{count_if}
-use Rattle.training_file.specs.declared.count.Count.{Count}
-use Rattle.training_file.specs.declared.count.Count.TheVariants as count
+use Rattle.training_file.specs.Answers.{ok_if}
 use Rattle.chain.specs.declared.link.Link.{Link}
 use Rattle.chain.specs.declared.link.Link.TheVariants.{Ended, Over, Next}
 use Rattle.chain.specs.Walk.{Walk, broken, ends}
@@ -29,9 +29,9 @@ link_next (Ended met) = 0
 link_next Over = 0
 link_next (Next number) = number
 
-abbrev pub walk_answer : Walk → Count
-walk_answer (broken number r) = count.Refused (refusal_at number r)
-walk_answer (ends records) = count.Counted (length records)
+abbrev pub walk_answer : Walk → Result ℕ Refusal
+walk_answer (broken number r) = Err (refusal_at number r)
+walk_answer (ends records) = Ok (length records)
 
 abbrev pub records_of : Walk → List ℕ
 records_of (broken number r) = []
@@ -50,8 +50,9 @@ pub record Chained (file : List ℕ) (n : ℕ) : Type 0 where
 -- ---- stage 4: how many items are looked up
 
 -- of these records, with k looked up before them
-abbrev pub judge_answer : ℕ → List ℕ → ℕ → List ℕ → Count
-judge_answer d file k records = count_if (every (record_allowed d file) records) 4 (k + labelled LookedUp (map (item_at file) records))
+abbrev pub judge_answer : ℕ → List ℕ → ℕ → List ℕ → Result ℕ Refusal
+judge_answer d file k records =
+    ok_if (every (record_allowed d file) records) (k + labelled LookedUp (map (item_at file) records)) refusal.Record
 
 -- ---- the order written down
 

@@ -1,4 +1,5 @@
-// One link of the chain, on slice and numbers. `walks` asks for it through `walker`.
+// One link of the chain, on slice and numbers. `walks` asks for it through `walker`, whose type says that the file is whole: as its methods these
+// would be no shorter.
 
 ghost use Rattle.std.specs.Prelude.{◌≡◌};
 ghost use Rattle.training_file.specs.Layout.{first_record};
@@ -6,9 +7,10 @@ ghost use Rattle.training_file.specs.Header.{WholeFile};
 ghost use Rattle.chain.specs.Answers.{link_at, link_next};
 
 use training_file::bytes::u16_at;
-use training_file::{layout, record};
+use training_file::layout;
+use training_file::record::Record;
 
-// What the walk finds at a number, which tells how it goes on.
+// What the walk finds at a number, which tells how it goes on. Nothing compares or prints one.
 #[derive(Clone, Copy)]
 pub enum Link {
     // The number is 0, which ends the chain, with so many records met.
@@ -20,13 +22,13 @@ pub enum Link {
 }
 
 impl Link {
-    // The number that the link leads to. One that leads to none gives 0.
+    // The number that the link leads to. One that leads to none gives 0, which is the format's own number for none: of an option the walker would
+    // make this 0 again.
     pub fn next(self) -> usize
         ensures { result ≡ link_next self }
     {
         match self {
-            Link::Ended(_) => 0,
-            Link::Over => 0,
+            Link::Ended(_) | Link::Over => 0,
             Link::Next(next) => next,
         }
     }
@@ -52,7 +54,7 @@ pub fn link_at(file: &[u8], number: usize, met: usize) -> Link
     if stored < number {
         return Link::Over;
     }
-    Link::Next(record::next(file, number))
+    Link::Next(Record { file, number }.next())
 }
 
 // The number that the link there leads to.
@@ -60,6 +62,5 @@ pub fn next_at(file: &[u8], number: usize, met: usize) -> usize
     requires { WholeFile file.now }
     ensures { result ≡ link_next (link_at file.now number met) }
 {
-    let link = link_at(file, number, met);
-    link.next()
+    link_at(file, number, met).next()
 }

@@ -1,27 +1,25 @@
 -- Classifying a word by a training file and multipliers (document 01, "The step", its last paragraph, and refusals 6 to 9; document 02, (e),
 -- for a score of 0). Assumes nothing.
-use Rattle.std.specs.Prelude.{◌≡◌, Bool, cond, List, ℕ, zero, suc, ◌≤◌, eqb, ℤ, pos, negsuc, nat_abs, ◌+ℤ◌, ◌-ℤ◌, ◌*ℤ◌, length, get_or, ◌<ℤ◌}
+use Rattle.std.specs.Prelude.{◌≡◌, Bool, cond, List, ℕ, zero, suc, ◌≤◌, eqb, ℤ, pos, negsuc, nat_abs, ◌+ℤ◌, ◌-ℤ◌, ◌*ℤ◌, length, get_or, ◌<ℤ◌, Result, Ok, Err}
 use Rattle.integers.specs.Places.{all}
 use Rattle.training_file.specs.declared.parameters.Parameters.{Parameters}
 use Rattle.training_file.specs.declared.item.Item.{Item}
 use Rattle.training_file.specs.declared.refusal.Refusal.{Refusal}
-use Rattle.training_file.specs.Refusal.{no_refusal, refusal}
+use Rattle.training_file.specs.declared.refusal.Refusal.TheVariants as refusal
 use Rattle.training_file.specs.Item.{feature_allowed, item_in}
 use Rattle.reading.specs.Calls.{file_first}
 use Rattle.reading.specs.Reading.{reading}
 use Rattle.dual_problem.specs.Size.{gradient_most}
 use Rattle.dual_problem.specs.Kernel.{kernel_between}
 use Rattle.dual_problem.specs.Problem.{problem, at}
-use Rattle.dual_problem.specs.FileProblem.{MultipliersListed, weighed_sum}
+use Rattle.dual_problem.specs.declared.problem.FileProblem.{FileProblem}
+use Rattle.dual_problem.specs.FileProblem.{weighed_sum}
+use Rattle.dual_problem.specs.Given.{MultipliersFit}
 use Rattle.thresholds.specs.declared.extremes.Thresholds.{Thresholds}
 use Rattle.thresholds.specs.Extremes.{thresholds_of}
-use Rattle.certifying.specs.declared.multipliers.Judgement.{Judgement}
-use Rattle.certifying.specs.declared.multipliers.Judgement.TheVariants as judged
 use Rattle.certifying.specs.Multipliers.{judgement}
 use Rattle.classifying.specs.declared.classify.Class.{Class}
 use Rattle.classifying.specs.declared.classify.Class.TheVariants.{LookedUp, PassedOver, Undecided}
-use Rattle.classifying.specs.declared.classify.Classified.{Classified}
-use Rattle.classifying.specs.declared.classify.Classified.TheVariants.{Refused, Is}
 
 -- "K of item i and the word"
 abbrev pub word_kernel : Parameters → List Item → List ℤ → ℕ → ℤ
@@ -53,36 +51,31 @@ abbrev pub word_allowed : List ℤ → Bool
 word_allowed word = all (length word) (λ i. feature_allowed (get_or word i (pos 0)))
 
 -- judged multipliers: their refusal, or 9 where a feature of the word is outside its range, or the class
-abbrev pub classify_judged : Parameters → List Item → List ℕ → List ℤ → Judgement → Classified
-classify_judged p items a word (judged.Refused why) = Refused why
-classify_judged p items a word judged.Feasible = cond (word_allowed word) (Is (class_of (score p items (at a) word))) (Refused (refusal 9))
+abbrev pub classify_judged : Parameters → List Item → List ℕ → List ℤ → Result Unit Refusal → Result Class Refusal
+classify_judged p items a word (Err why) = Err why
+classify_judged p items a word (Ok feasible) = cond (word_allowed word) (Ok (class_of (score p items (at a) word))) (Err refusal.WordFeature)
 
 -- "6: .. a word without exactly d features". Multipliers not n in number draw the same 6 from the judging, whose first test it is, so
 -- the numbers are met in order
-abbrev pub classify_items : Parameters → List Item → List ℕ → List ℤ → Classified
+abbrev pub classify_items : Parameters → List Item → List ℕ → List ℤ → Result Class Refusal
 classify_items p items a word =
-    cond (eqb (length word) p.used) (classify_judged p items a word (judgement (problem p items) a)) (Refused (refusal 6))
+    cond (eqb (length word) p.used) (classify_judged p items a word (judgement (problem p items) a)) (Err refusal.ListLength)
 
 -- any file, any multipliers and any word: the refusals of the file come before those of the caller
-abbrev pub classifying : List ℕ → List ℕ → List ℤ → Classified
-classifying file a word = file_first Refused (λ p order items. classify_items p items a word) (reading file)
-
--- the refusal that an answer is
-abbrev pub classified_refusal : Classified → Refusal
-classified_refusal (Refused why) = why
-classified_refusal (Is class) = no_refusal
+abbrev pub classifying : List ℕ → List ℕ → List ℤ → Result Class Refusal
+classifying file a word = file_first Err (λ p order items. classify_items p items a word) (reading file)
 
 -- a refusal, or undecided: what multipliers that are all 0 give every word (`zeros_undecided`)
-abbrev pub UndecidedUnlessRefused : Classified → Type 0
-UndecidedUnlessRefused (Refused why) = Unit {0}
-UndecidedUnlessRefused (Is class) = class ≡ Undecided
+abbrev pub UndecidedUnlessRefused : Result Class Refusal → Type 0
+UndecidedUnlessRefused (Err why) = Unit {0}
+UndecidedUnlessRefused (Ok class) = class ≡ Undecided
 
 -- two lists with the same feature at each place, past their ends 0
 abbrev pub SameFeatures : List ℤ → List ℤ → Type 0
 SameFeatures xs zs = (q : ℕ) → get_or xs q (pos 0) ≡ get_or zs q (pos 0)
 
 -- what a word's score asks: multipliers that were judged, and thresholds no larger than a G can be
-pub record Scorable (file order : List ℕ) (n : ℕ) (p : Parameters) (a : List ℕ) (thresholds : Thresholds) : Type 0 where
-  pub listed : MultipliersListed file order n p a
+pub record Scorable (f : FileProblem) (a : List ℕ) (thresholds : Thresholds) : Type 0 where
+  pub fit : MultipliersFit f a
   pub lower_size : nat_abs thresholds.lower ≤ gradient_most
   pub upper_size : nat_abs thresholds.upper ≤ gradient_most

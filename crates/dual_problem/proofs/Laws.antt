@@ -3,3 +3,4 @@ pub mod Kernel
 pub mod Problem
 pub mod Size
 pub mod FileProblem
+pub mod Results

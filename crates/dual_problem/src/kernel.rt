@@ -12,7 +12,7 @@ use training_file::parameters::{Kernel, Parameters};
 fn product(x: i8, z: i8) -> i32
     ensures { result ≡ x *ℤ z }
 {
-    (x as i32) * (z as i32)
+    i32::from(x) * i32::from(z)
 }
 
 // By so much the overlap kernel raises a feature, so that the least, −127, becomes 0.
@@ -21,20 +21,18 @@ const RAISED_BY: i32 = 127;
 fn raised_feature(feature: i8) -> i32
     ensures { result ≡ raised_feature feature }
 {
-    (feature as i32) + RAISED_BY
+    i32::from(feature) + RAISED_BY
 }
 
 // The smaller of two features, each first raised by 127.
 fn smaller_raised(x: i8, z: i8) -> i32
     ensures { result ≡ smaller_raised x z }
 {
-    let x = raised_feature(x);
-    let z = raised_feature(z);
-    if x <= z { x } else { z }
+    raised_feature(x).min(raised_feature(z))
 }
 
 // What two features add to the sum that a kernel is of. At 32 bits, which a sum of sixteen such fits: the loop over them took less than
-// half the time that it took at 64, measured with the kit before rattle-kit-13f.
+// half the time that it took at 64.
 fn summand(kernel: Kernel, x: i8, z: i8) -> i32
     ensures value { result ≡ summand_of kernel x z }
     ensures size { nat_abs result ≤ signed_most * signed_most }
@@ -53,16 +51,14 @@ fn feature_sum(kernel: Kernel, used: usize, xs: &[i8], zs: &[i8]) -> i64
     ensures size { nat_abs result ≤ feature_sum_most }
 {
     let mut sum: i32 = 0;
-    let mut p = 0;
-    while p < used {
+    for p in 0..used {
         sum += summand(kernel, xs[p], zs[p]);
-        p += 1;
     }
-    sum as i64
+    i64::from(sum)
 }
 
 // K of two items whose features are lent: neither is copied, however many kernel values it goes into. The sum is asked for in each arm, so
-// that the compiler makes one choice for the loop and for what follows it.
+// that the compiler makes one choice for the loop and for what follows it. The kernel has a name, since three places ask for it.
 pub fn kernel_of_features(parameters: Parameters, xs: &[i8], zs: &[i8]) -> i64
     requires { (parameters.used ≤ feature_count) × (parameters.used ≤ length xs.now) × (parameters.used ≤ length zs.now) }
     ensures value { result ≡ kernel_between parameters xs.now zs.now }
@@ -78,13 +74,11 @@ pub fn kernel_of_features(parameters: Parameters, xs: &[i8], zs: &[i8]) -> i64
     }
 }
 
-// K of two items.
+// K of two items, as document 01 has it: a line over the function on lent features.
 pub fn kernel_value(parameters: Parameters, x: Item, z: Item) -> i64
     requires { parameters.used ≤ feature_count }
     ensures value { result ≡ kernel_between parameters x.features z.features }
     ensures size { nat_abs result ≤ kernel_most }
 {
-    let xs = x.features;
-    let zs = z.features;
-    kernel_of_features(parameters, &xs, &zs)
+    kernel_of_features(parameters, &x.features, &z.features)
 }

@@ -12,8 +12,8 @@ pub fn with_sign(number: u32, label: Label) -> i64
     ensures size { nat_abs result ≤ number }
 {
     match label {
-        Label::LookedUp => number as i64,
-        Label::PassedOver => -(number as i64),
+        Label::LookedUp => i64::from(number),
+        Label::PassedOver => -i64::from(number),
     }
 }
 

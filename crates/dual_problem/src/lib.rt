@@ -5,3 +5,4 @@
 pub mod gradient;
 pub mod kernel;
 pub mod label;
+pub mod problem;

@@ -1,6 +1,8 @@
 -- What the two passes over a text rest on: what the first answers, and what the second is told. Assumes nothing.
-use Rattle.std.specs.Prelude.{◌≡◌, true, false, not, List, [], ℕ, ◌≤◌, length}
+use Rattle.std.specs.Prelude.{◌≡◌, true, cond, List, [], ℕ, ◌≤◌, length, Option as Told, Some, None, Result, Ok, Err}
 use Rattle.std.proofs.Math.Option.{Option, none, some}
+use Rattle.training_file.specs.declared.refusal.Refusal.{Refusal}
+use Rattle.training_file.specs.declared.refusal.Refusal.TheVariants as refusal
 use Rattle.training_file.specs.declared.item.Label.TheVariants.{LookedUp}
 use Rattle.training_file.specs.declared.item.Item.{Item}
 use Rattle.training_file.specs.Layout.{feature_count}
@@ -12,11 +14,14 @@ use Rattle.libsvm_text.specs.Items.{line_allowed, line_items}
 use Rattle.libsvm_text.specs.Lines.{text_lines}
 use Rattle.importing.specs.declared.passes.Judged.{Judged}
 
--- whether a text is of the form, whether a value is outside the range, how many lines it has, and how many are looked up
-abbrev pub judged : Option (List Line) → Judged
-judged none = record { formed = false; wide = false; lines = 0; looked_up = 0 }
-judged (some lines) =
-    record { formed = true; wide = not (every line_allowed lines); lines = length lines; looked_up = labelled LookedUp (line_items lines) }
+-- how many of the lines are looked up, none where a value is outside the range
+abbrev pub found_looked_up : List Line → Told ℕ
+found_looked_up lines = cond (every line_allowed lines) (Some (labelled LookedUp (line_items lines))) None
+
+-- of a text of the form: how many lines it has, and how many are looked up
+abbrev pub judged : Option (List Line) → Result Judged Refusal
+judged none = Err refusal.Text
+judged (some lines) = Ok (record { lines = length lines; looked_up = found_looked_up lines })
 
 -- the items of the lines that are found
 abbrev pub found_items : Option (List Line) → List Item

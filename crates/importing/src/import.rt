@@ -5,42 +5,35 @@ ghost use Rattle.written_file.specs.Output.{output_after, written_answer};
 ghost use Rattle.importing.specs.Importing.{importing};
 
 use super::passes::{judge_text, put_lines};
-use training_file::count::Count;
+use buffer::put::Cursor;
 use training_file::parameters::Parameters;
 use training_file::refusal::Refusal;
 use written_file::header::put_header;
 use written_file::output::file_length;
 
 // The length of the file, which stands at the output's start; the bytes past it are left as they were. On a refusal all of them are.
-pub fn import(parameters: Parameters, text: &[u8], output: &mut [u8]) -> Count
+pub fn import(parameters: Parameters, text: &[u8], output: &mut [u8]) -> Result<usize, Refusal>
     ensures answer { result ≡ written_answer (importing parameters text.now (length output.old)) }
     ensures output { output.new
         ≡ output_after (importing parameters text.now (length output.old)) output.old }
 {
     if !parameters.allowed() {
-        return Count::Refused(Refusal::HEADER);
+        return Err(Refusal::Header);
     }
-    let judged = judge_text(text, parameters.used);
-    if !judged.formed {
-        return Count::Refused(Refusal::TEXT);
-    }
+    let judged = judge_text(text, parameters.used)?;
     if Parameters::MAX_RECORDS < judged.lines {
-        return Count::Refused(Refusal::LINES);
+        return Err(Refusal::Lines);
     }
-    if judged.wide {
-        return Count::Refused(Refusal::RECORD);
+    let looked_up = judged.looked_up.ok_or(Refusal::Record)?;
+    if looked_up == 0 || looked_up == judged.lines {
+        return Err(Refusal::Labels);
     }
-    if judged.looked_up == 0 {
-        return Count::Refused(Refusal::LABELS);
-    }
-    if judged.looked_up == judged.lines {
-        return Count::Refused(Refusal::LABELS);
-    }
-    let length = file_length(judged.lines, output.len());
-    let Count::Counted(_) = length else {
-        return length;
+    let length = file_length(judged.lines, output.len())?;
+    let mut out = Cursor {
+        bytes: output,
+        at: 0,
     };
-    let records_at = put_header(output, 0, judged.lines, parameters);
-    put_lines(output, records_at, text, parameters.used, judged.lines);
-    length
+    put_header(&mut out, judged.lines, parameters);
+    put_lines(&mut out, text, parameters.used, judged.lines);
+    Ok(length)
 }

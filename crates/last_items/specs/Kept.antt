@@ -1,7 +1,7 @@
 -- What the code that finds the last of equal items rests on: records by their numbers, and a hash of their features. Assumes nothing.
 use Rattle.std.specs.Prelude.{◌≡◌, Bool, List, ◌++◌, map, ℕ, ◌+◌, ◌*◌, ◌/◌, ◌%◌, ◌≤◌, ◌<◌, length, get_or, take}
 use Rattle.training_file.specs.declared.item.Item.{Item}
-use Rattle.training_file.specs.Layout.{feature_bytes, feature_count, le4}
+use Rattle.training_file.specs.Layout.{byte_at, feature_bytes, feature_count, le4}
 use Rattle.training_file.specs.Parameters.{records_most}
 use Rattle.training_file.specs.Record.{Stored, item_at}
 use Rattle.last_items.specs.Last.{is_last, staying}
@@ -9,6 +9,10 @@ use Rattle.last_items.specs.Last.{is_last, staying}
 -- the items of records, by their numbers
 abbrev pub items_at : (file numbers : List ℕ) → List Item
 items_at file numbers = map (item_at file) numbers
+
+-- that a file is of bytes: of a slice in a struct a proof doesn't know it by itself
+abbrev pub AllBytes : (file : List ℕ) → Type 0
+AllBytes file = (i : ℕ) → byte_at file i < 256
 
 -- that each of the records stands whole in the file
 abbrev pub AllStored : (file numbers : List ℕ) → Type 0

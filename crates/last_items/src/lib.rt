@@ -3,4 +3,6 @@
 #![tactic(auto)]
 
 mod hash;
+mod hashed;
 pub mod kept;
+pub mod records;

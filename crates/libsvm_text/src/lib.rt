@@ -5,3 +5,4 @@
 pub mod group;
 pub mod line;
 mod numeral;
+pub mod place;

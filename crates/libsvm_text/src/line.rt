@@ -1,120 +1,89 @@
 // A line of a text: its label, its groups and the newline.
 
-ghost use Rattle.std.specs.Prelude.{◌≡◌, ◌≤◌};
-ghost use Rattle.training_file.specs.Layout.{feature_count};
-ghost use Rattle.libsvm_text.specs.Read.{ReadsGroups, ReadsLine, Within, label_at, text_ends};
+ghost use Rattle.std.specs.Prelude.{◌≡◌};
+ghost use Rattle.libsvm_text.specs.Places.{text_ends};
+ghost use Rattle.libsvm_text.specs.Read.{ReadsGroups, ReadsLine, label_at};
 
 use super::group::read_group;
+use super::place::{Found, Place};
 use training_file::item::{Item, Label};
 
-#[derive(Clone, Copy)]
-pub struct LabelRead {
-    pub formed: bool,
-    pub label: Label,
-}
-
-// The groups of a line: whether they are of the form, whether a value is outside the range, the features where none is, and the place after
-// them. Nothing rests on the others where they aren't.
-#[derive(Clone, Copy)]
-pub struct GroupsRead {
-    pub formed: bool,
-    pub wide: bool,
-    pub features: [i8; Item::FEATURE_COUNT],
-    pub end: usize,
-}
-
-// The same of a line, with its item.
+// A label and features, none where a value is outside the range. Nothing compares or prints one.
 #[derive(Clone, Copy)]
 pub struct LineRead {
-    pub formed: bool,
-    pub wide: bool,
-    pub item: Item,
-    pub end: usize,
+    pub label: Label,
+    pub features: Option<[i8; Item::FEATURE_COUNT]>,
 }
 
-fn read_label(text: &[u8], start: usize) -> LabelRead
-    requires { Within text.now start }
-    ensures { result ≡ label_at text.now start }
+fn read_label(from: Place) -> Option<Label>
+    ensures { result ≡ label_at from.entry.text.now from.entry.at }
 {
-    let sign = text[start];
-    if sign == b'+' {
-        return LabelRead {
-            formed: text[start + 1] == b'1',
-            label: Label::LookedUp,
-        };
-    }
-    LabelRead {
-        formed: sign == b'-' && text[start + 1] == b'1',
-        label: Label::PassedOver,
-    }
+    let Place { text, at, .. } = from;
+    let label = match text[at] {
+        b'+' => Label::LookedUp,
+        b'-' => Label::PassedOver,
+        _ => return None,
+    };
+    (text[at + 1] == b'1').then_some(label)
 }
 
-// The groups from the place after the label on.
-fn read_groups(text: &[u8], start: usize, used: usize) -> GroupsRead
-    requires { Within text.now start × (used ≤ feature_count) }
-    ensures { ReadsGroups used text.now start result result.formed }
+// The groups from the place after the label on: their features, none where a value is outside the range. Such a value is a flag until the
+// end, since the groups after it are read all the same.
+fn read_groups(from: Place) -> Option<Found<Option<[i8; Item::FEATURE_COUNT]>>>
+    ensures { ReadsGroups from.entry.used from.entry.text.now from.entry.at result }
 {
+    let Place { text, used, mut at } = from;
     let mut features = [0i8; Item::FEATURE_COUNT];
     let mut wide = false;
     let mut last = 0;
-    let mut at = start;
     while text[at] == b' ' {
-        let group = read_group(text, at + 1, last, used);
-        if !group.formed {
-            return GroupsRead {
-                formed: false,
-                wide,
-                features,
-                end: at,
-            };
+        let found = read_group(
+            Place {
+                text,
+                used,
+                at: at + 1,
+            },
+            last,
+        )?;
+        match found.what.feature {
+            Some(feature) => features[found.what.number - 1] = feature,
+            None => wide = true,
         }
-        let feature = group.feature;
-        features[group.number - 1] = feature;
-        wide = wide || group.wide;
-        last = group.number;
-        at = group.end;
+        last = found.what.number;
+        at = found.end;
     }
-    GroupsRead {
-        formed: true,
-        wide,
-        features,
+    Some(Found {
+        what: (!wide).then_some(features),
         end: at,
-    }
+    })
 }
 
-pub fn read_line(text: &[u8], start: usize, used: usize) -> LineRead
-    requires { Within text.now start × (used ≤ feature_count) }
-    ensures { ReadsLine used text.now start result result.formed }
+// The line at a place, with its newline; none where the text has none there.
+pub fn read_line(from: Place) -> Option<Found<LineRead>>
+    ensures { ReadsLine from.entry.used from.entry.text.now from.entry.at result }
 {
-    let head = read_label(text, start);
-    let label = head.label;
-    if !head.formed {
-        let features = [0i8; Item::FEATURE_COUNT];
-        return LineRead {
-            formed: false,
-            wide: false,
-            item: Item { features, label },
-            end: start,
-        };
+    let Place { text, used, at } = from;
+    let label = read_label(from)?;
+    let groups = read_groups(Place {
+        text,
+        used,
+        at: at + 2,
+    })?;
+    if text[groups.end] != b'\n' {
+        return None;
     }
-    let groups = read_groups(text, start + 2, used);
-    let features = groups.features;
-    let formed = groups.formed && text[groups.end] == b'\n';
-    LineRead {
-        formed,
-        wide: groups.wide,
-        item: Item { features, label },
-        end: if formed { groups.end + 1 } else { start },
-    }
+    Some(Found {
+        what: LineRead {
+            label,
+            features: groups.what,
+        },
+        end: groups.end + 1,
+    })
 }
 
 // Whether a text has no bytes, or a newline for the last one.
 pub fn ends(text: &[u8]) -> bool
     ensures { result ≡ text_ends text.now }
 {
-    let length = text.len();
-    if length == 0 {
-        return true;
-    }
-    text[length - 1] == b'\n'
+    matches!(text.last(), None | Some(b'\n'))
 }

@@ -3,6 +3,7 @@
 use Rattle.std.specs.Prelude.{List, [], ◌∷◌, ◌++◌, ℕ, zero, suc, ℤ, get_or}
 use Rattle.training_file.specs.declared.item.Item.{Item}
 use Rattle.training_file.specs.declared.refusal.Refusal.{Refusal}
+use Rattle.training_file.specs.Refusal.{number_of, record_of}
 use Rattle.training_file.specs.declared.item.Label.{Label}
 use Rattle.training_file.specs.declared.item.Label.TheVariants.{LookedUp, PassedOver}
 use Rattle.training_file.specs.Item.{item_in}
@@ -50,7 +51,7 @@ record_field (suc r) = field (suc r)
 
 -- "`refused`, a space and the number"
 abbrev pub refusal_line : Refusal → List ℕ
-refusal_line why = refused_text ++ (field why.number ++ (record_field why.at ++ (10 ∷ [])))
+refusal_line why = refused_text ++ (field (number_of why) ++ (record_field (record_of why) ++ (10 ∷ [])))
 
 -- "Line one: ending, steps, b_low, b_up."
 unfoldable pub result_line : Trained → List ℕ

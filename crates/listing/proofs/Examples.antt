@@ -7,7 +7,7 @@ use lib.IntN.{negsuc}
 use Rattle.integers.specs.Sum.{sum}
 use Rattle.integers.specs.Extremum.{extreme, first}
 use Rattle.integers.specs.Places.{all}
-use Rattle.training_file.specs.Refusal.{refusal, refusal_at}
+use Rattle.training_file.specs.declared.refusal.Refusal.TheVariants.{NextMet, Record}
 use Rattle.training_file.specs.Parameters.{parameters_allowed}
 use Rattle.training_file.specs.Item.{features_allowed, labelled}
 use Rattle.training_file.specs.Record.{record_allowed, every}
@@ -51,12 +51,12 @@ unfolding value before parts count_read sum_read p9_lines
 p9_read = (refl, refl, refl)
 
 -- `refused 4`
-a_refusal : listing_of (refused (refusal 4)) ≡ 114 ∷ 101 ∷ 102 ∷ 117 ∷ 115 ∷ 101 ∷ 100 ∷ 32 ∷ 52 ∷ 10 ∷ []
+a_refusal : listing_of (refused Record) ≡ 114 ∷ 101 ∷ 102 ∷ 117 ∷ 115 ∷ 101 ∷ 100 ∷ 32 ∷ 52 ∷ 10 ∷ []
 unfolding digits decimal listing listing_of
 a_refusal = refl
 
 -- `refused 16 7`
-a_broken_chain : listing_of (refused (refusal_at 16 7)) ≡ 114 ∷ 101 ∷ 102 ∷ 117 ∷ 115 ∷ 101 ∷ 100 ∷ 32 ∷ 49 ∷ 54 ∷ 32 ∷ 55 ∷ 10 ∷ []
+a_broken_chain : listing_of (refused (NextMet 7)) ≡ 114 ∷ 101 ∷ 102 ∷ 117 ∷ 115 ∷ 101 ∷ 100 ∷ 32 ∷ 49 ∷ 54 ∷ 32 ∷ 55 ∷ 10 ∷ []
 unfolding digits decimal listing listing_of
 a_broken_chain = refl
 

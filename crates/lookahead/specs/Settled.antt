@@ -1,7 +1,7 @@
 -- Document 01, "Settled examples": P1 to P12 as one table of inputs and results, and one theorem, by the definitions that the
 -- contracts of the public calls cite. E1 to E3, K1 to K4, F1 to F6, I1 to I7, B1 to B7 and C1 to C7 are our own, for requests (e), (k),
 -- (f), (i), (b) and (c) of document 02. Assumes nothing.
-use Rattle.std.specs.Prelude.{◌≡◌, refl, Bool, false, ℕ, ℤ, pos, negsuc, length, replicate}
+use Rattle.std.specs.Prelude.{◌≡◌, refl, Bool, false, ℕ, ℤ, pos, negsuc, length, replicate, Result, Ok, Err}
 use mathlib.Core.List.{List, [], ◌∷◌, ◌++◌, flatten}
 use Rattle.std.proofs.Math.Option.{Option, none, some}
 use Rattle.integers.specs.Sum.{sum}
@@ -10,9 +10,10 @@ use Rattle.integers.specs.Places.{all}
 use Rattle.integers.specs.Tabulate.{tabulate}
 use Rattle.integers.specs.Written.{written}
 use Rattle.training_file.specs.declared.refusal.Refusal.{Refusal}
+use Rattle.training_file.specs.declared.refusal.Refusal.TheVariants as refusal
 use Rattle.training_file.specs.declared.parameters.Kernel.TheVariants.{Linear, Overlap}
 use Rattle.training_file.specs.declared.parameters.Parameters.{Parameters}
-use Rattle.training_file.specs.Refusal.{refusal, refusal_at}
+use Rattle.training_file.specs.Refusal.{refusal_at}
 use Rattle.training_file.specs.Parameters.{parameters_allowed}
 use Rattle.training_file.specs.Item.{features_allowed, labelled}
 use Rattle.training_file.specs.Record.{record_allowed, every}
@@ -20,18 +21,15 @@ use Rattle.training_file.specs.Header.{header_allowed, length_allowed}
 use Rattle.chain.specs.Walk.{records_met}
 use Rattle.reading.specs.Reading.{Reading, refused, accepted, reading}
 use Rattle.dual_problem.specs.Problem.{Problem, problem, gradient, double_sum, objective, at}
-use Rattle.certifying.specs.declared.certify.Certified.{Certified}
-use Rattle.certifying.specs.declared.certify.Certified.TheVariants as certified
+use Rattle.thresholds.specs.declared.extremes.Thresholds.{Thresholds}
 use Rattle.certifying.specs.Certify.{certifying}
 use Rattle.working_pair.specs.Step.{amount, first_candidate, i_low, i_up, moves, working_pair}
 use Rattle.smo.specs.declared.ending.Ending.{Ending}
 use Rattle.smo.specs.declared.ending.Ending.TheVariants.{Converged, Stuck, Spent}
 use Rattle.smo.specs.Run.{run, turn}
-use Rattle.training.specs.declared.train.Training.TheVariants.{Ended}
 use Rattle.training.specs.Train.{TrainingLeft, train_file, unchanged}
+use Rattle.classifying.specs.declared.classify.Class.{Class}
 use Rattle.classifying.specs.declared.classify.Class.TheVariants.{LookedUp, PassedOver, Undecided}
-use Rattle.classifying.specs.declared.classify.Classified.{Classified}
-use Rattle.classifying.specs.declared.classify.Classified.TheVariants.{Is}
 use Rattle.classifying.specs.Classify.{classifying, score, score_with}
 use Rattle.written_file.specs.File.{records_to}
 use Rattle.written_file.specs.Output.{Writing, wrote, refused as not_written}
@@ -163,9 +161,9 @@ pub data Case : Type 0 where
   -- the file: at the start the pair tried first does not move
   first_pair_stays : List ℕ → Case
   -- the file, the multipliers; the answer
-  certifies : List ℕ → List ℕ → Certified → Case
+  certifies : List ℕ → List ℕ → Result Thresholds Refusal → Case
   -- the file, the multipliers, the word; the answer and the value
-  classifies : List ℕ → List ℕ → List ℤ → Classified → ℤ → Case
+  classifies : List ℕ → List ℕ → List ℤ → Result Class Refusal → ℤ → Case
   -- the parameters, the items, the length of the output; the file or the refusal
   writes : Parameters → List (List ℤ) → ℕ → Writing → Case
   -- the parameters, the text, the length of the output; the file or the refusal
@@ -190,7 +188,7 @@ value (accepted p order items) a word = score p items (at a) word
 
 abbrev pub Holds : Case → Type 0
 Holds (trains file ending steps lower upper left) =
-    ((trained file).answer ≡ Ended (record { ending = ending; steps = steps; lower = lower; upper = upper })) × ((trained file).multipliers ≡ left)
+    ((trained file).answer ≡ Ok (record { ending = ending; steps = steps; lower = lower; upper = upper })) × ((trained file).multipliers ≡ left)
 Holds (refuses file why) = trained file ≡ unchanged why (replicate 3 9) (replicate 3 (pos 9))
 Holds (first_pair_stays file) = first_pair_moves (reading file) ≡ some false
 Holds (certifies file a answer) = certifying file a ≡ answer
@@ -214,14 +212,14 @@ settled_examples =
     ∷ trains (plus_minus 1 16 100 0 50) Converged 1 (pos 0) (pos 0) (4 ∷ 4 ∷ 9 ∷ [])  -- P8
     ∷ first_pair_stays three  -- P9
     ∷ trains three Converged 1 (pos 1) (pos 1) (2 ∷ 0 ∷ 2 ∷ [])
-    ∷ certifies (plus_minus 0 10 100 0 50) (0 ∷ 0 ∷ []) (certified.Found (record { lower = pos 10; upper = negsuc 9 }))  -- P10
-    ∷ certifies (plus_minus 0 10 100 0 50) (5 ∷ 4 ∷ []) (certified.Refused (refusal 8))  -- P11
-    ∷ certifies (plus_minus 0 10 100 0 50) (101 ∷ 100 ∷ []) (certified.Refused (refusal 7))
-    ∷ classifies (plus_minus 0 10 100 0 50) (5 ∷ 5 ∷ []) (pos 3 ∷ []) (Is LookedUp) (pos 60)  -- P12
-    ∷ classifies (plus_minus 0 10 100 0 50) (5 ∷ 5 ∷ []) (pos 0 ∷ []) (Is Undecided) (pos 0)
-    ∷ classifies (plus_minus 0 10 100 0 50) (0 ∷ 0 ∷ []) (pos 3 ∷ []) (Is Undecided) (pos 0)  -- E1
-    ∷ classifies uneven (1 ∷ 1 ∷ []) (pos 0 ∷ []) (Is PassedOver) (negsuc 0)  -- E2
-    ∷ classifies uneven (1 ∷ 1 ∷ []) (pos 1 ∷ []) (Is LookedUp) (pos 1)  -- E3
+    ∷ certifies (plus_minus 0 10 100 0 50) (0 ∷ 0 ∷ []) (Ok (record { lower = pos 10; upper = negsuc 9 }))  -- P10
+    ∷ certifies (plus_minus 0 10 100 0 50) (5 ∷ 4 ∷ []) (Err refusal.Balance)  -- P11
+    ∷ certifies (plus_minus 0 10 100 0 50) (101 ∷ 100 ∷ []) (Err refusal.Multiplier)
+    ∷ classifies (plus_minus 0 10 100 0 50) (5 ∷ 5 ∷ []) (pos 3 ∷ []) (Ok LookedUp) (pos 60)  -- P12
+    ∷ classifies (plus_minus 0 10 100 0 50) (5 ∷ 5 ∷ []) (pos 0 ∷ []) (Ok Undecided) (pos 0)
+    ∷ classifies (plus_minus 0 10 100 0 50) (0 ∷ 0 ∷ []) (pos 3 ∷ []) (Ok Undecided) (pos 0)  -- E1
+    ∷ classifies uneven (1 ∷ 1 ∷ []) (pos 0 ∷ []) (Ok PassedOver) (negsuc 0)  -- E2
+    ∷ classifies uneven (1 ∷ 1 ∷ []) (pos 1 ∷ []) (Ok LookedUp) (pos 1)  -- E3
     ∷ refuses (linked 2 1) (refusal_at 16 2)  -- K1
     ∷ refuses (linked 1 0) (refusal_at 16 1)  -- K2
     ∷ refuses (linked 2 3) (refusal_at 3 2)  -- K3
@@ -229,35 +227,35 @@ settled_examples =
     ∷ trains (ceilings 100 3 0) Converged 1 (negsuc 3) (negsuc 3) (3 ∷ 3 ∷ 9 ∷ [])  -- F1
     ∷ trains (ceilings 3 100 0) Converged 1 (pos 4) (pos 4) (3 ∷ 3 ∷ 9 ∷ [])  -- F2
     ∷ trains (ceilings 100 100 0) Converged 1 (pos 0) (pos 0) (5 ∷ 5 ∷ 9 ∷ [])  -- F3
-    ∷ refuses (ceilings 100 1 1) (refusal 2)  -- F4
-    ∷ certifies (ceilings 100 3 0) (4 ∷ 4 ∷ []) (certified.Refused (refusal 7))  -- F5
-    ∷ certifies (ceilings 3 100 0) (4 ∷ 4 ∷ []) (certified.Refused (refusal 7))
+    ∷ refuses (ceilings 100 1 1) refusal.Header  -- F4
+    ∷ certifies (ceilings 100 3 0) (4 ∷ 4 ∷ []) (Err refusal.Multiplier)  -- F5
+    ∷ certifies (ceilings 3 100 0) (4 ∷ 4 ∷ []) (Err refusal.Multiplier)
     ∷ trains (one_against_two 100 2) Converged 2 (negsuc 1) (negsuc 1) (4 ∷ 2 ∷ 2 ∷ [])  -- F6
     ∷ trains (plus_minus 2 10 100 0 50) Converged 1 (pos 10) (pos 10) (10 ∷ 10 ∷ 9 ∷ [])  -- I1
     ∷ trains both_ends Converged 1 (pos 127) (pos 127) (1 ∷ 1 ∷ 9 ∷ [])  -- I2
     ∷ trains (both_one 2) Converged 1 (negsuc 9) (pos 10) (7 ∷ 7 ∷ 9 ∷ [])  -- I3, where η is 0
-    ∷ certifies (plus_minus 2 10 100 0 50) (5 ∷ 5 ∷ []) (certified.Found (record { lower = pos 10; upper = pos 0 }))  -- I4
-    ∷ classifies (plus_minus 2 10 100 0 50) (10 ∷ 10 ∷ []) (pos 3 ∷ []) (Is LookedUp) (pos 20)  -- I5
-    ∷ classifies (plus_minus 2 10 100 0 50) (10 ∷ 10 ∷ []) (pos 0 ∷ []) (Is Undecided) (pos 0)
-    ∷ classifies both_ends (1 ∷ 1 ∷ []) (negsuc 126 ∷ []) (Is PassedOver) (negsuc 253)  -- I6
-    ∷ refuses (plus_minus 3 10 100 0 50) (refusal 2)  -- I7
+    ∷ certifies (plus_minus 2 10 100 0 50) (5 ∷ 5 ∷ []) (Ok (record { lower = pos 10; upper = pos 0 }))  -- I4
+    ∷ classifies (plus_minus 2 10 100 0 50) (10 ∷ 10 ∷ []) (pos 3 ∷ []) (Ok LookedUp) (pos 20)  -- I5
+    ∷ classifies (plus_minus 2 10 100 0 50) (10 ∷ 10 ∷ []) (pos 0 ∷ []) (Ok Undecided) (pos 0)
+    ∷ classifies both_ends (1 ∷ 1 ∷ []) (negsuc 126 ∷ []) (Ok PassedOver) (negsuc 253)  -- I6
+    ∷ refuses (plus_minus 3 10 100 0 50) refusal.Header  -- I7
     ∷ writes (parameters_with 10) plus_minus_items 73 (wrote plus_minus_file)  -- B1
     ∷ writes greatest end_items 73 (wrote greatest_file)  -- B2
-    ∷ writes (parameters_with 0) (row (pos 1) (pos 1) ∷ replicate 256 (row (negsuc 0) (pos 2))) 3 (not_written (refusal 2))  -- B3
-    ∷ writes (parameters_with 10) (row (pos 1) (pos 3) ∷ replicate 256 (row (negsuc 0) (pos 2))) 3 (not_written (refusal 1))  -- B4
-    ∷ writes (parameters_with 10) (row (pos 1) (negsuc 0) ∷ row (pos 1) (pos 1) ∷ []) 3 (not_written (refusal 4))  -- B5
-    ∷ writes (parameters_with 10) (row (pos 1) (pos 1) ∷ row (negsuc 127) (pos 1) ∷ []) 3 (not_written (refusal 4))
-    ∷ writes (parameters_with 10) (row (pos 1) (pos 1) ∷ past_used ∷ []) 3 (not_written (refusal 4))
-    ∷ writes (parameters_with 10) (row (pos 1) (pos 1) ∷ row (negsuc 0) (pos 1) ∷ []) 3 (not_written (refusal 5))  -- B6
-    ∷ writes (parameters_with 10) [] 3 (not_written (refusal 5))
-    ∷ writes (parameters_with 10) plus_minus_items 71 (not_written (refusal 10))  -- B7
+    ∷ writes (parameters_with 0) (row (pos 1) (pos 1) ∷ replicate 256 (row (negsuc 0) (pos 2))) 3 (not_written refusal.Header)  -- B3
+    ∷ writes (parameters_with 10) (row (pos 1) (pos 3) ∷ replicate 256 (row (negsuc 0) (pos 2))) 3 (not_written refusal.FileLength)  -- B4
+    ∷ writes (parameters_with 10) (row (pos 1) (negsuc 0) ∷ row (pos 1) (pos 1) ∷ []) 3 (not_written refusal.Record)  -- B5
+    ∷ writes (parameters_with 10) (row (pos 1) (pos 1) ∷ row (negsuc 127) (pos 1) ∷ []) 3 (not_written refusal.Record)
+    ∷ writes (parameters_with 10) (row (pos 1) (pos 1) ∷ past_used ∷ []) 3 (not_written refusal.Record)
+    ∷ writes (parameters_with 10) (row (pos 1) (pos 1) ∷ row (negsuc 0) (pos 1) ∷ []) 3 (not_written refusal.Labels)  -- B6
+    ∷ writes (parameters_with 10) [] 3 (not_written refusal.Labels)
+    ∷ writes (parameters_with 10) plus_minus_items 71 (not_written refusal.Output)  -- B7
     ∷ imports two_used two_lines 73 (wrote two_lines_file)  -- C1
-    ∷ imports two_used (and_minus (43 ∷ 49 ∷ 32 ∷ 49 ∷ 58 ∷ 49 ∷ 50 ∷ 56 ∷ 10 ∷ [])) 3 (not_written (refusal 4))  -- C2, `+1 1:128`
-    ∷ imports two_used (and_minus (43 ∷ 49 ∷ 32 ∷ 49 ∷ 58 ∷ 48 ∷ 49 ∷ 50 ∷ 56 ∷ 10 ∷ [])) 3 (not_written (refusal 11))  -- C3, `+1 1:0128`
-    ∷ imports two_used [] 3 (not_written (refusal 5))  -- C4
-    ∷ imports two_used (45 ∷ 49 ∷ 32 ∷ 49 ∷ 58 ∷ 45 ∷ 48 ∷ 10 ∷ 43 ∷ 49 ∷ 10 ∷ []) 3 (not_written (refusal 11))  -- C5, `-1 1:-0`, `+1`
-    ∷ imports two_used (many_lines (45 ∷ 49 ∷ 10 ∷ [])) 3 (not_written (refusal 12))  -- C6, the last `-1`
-    ∷ imports two_used (many_lines (45 ∷ 49 ∷ 32 ∷ 10 ∷ [])) 3 (not_written (refusal 11))  -- C7, the last `-1 `
+    ∷ imports two_used (and_minus (43 ∷ 49 ∷ 32 ∷ 49 ∷ 58 ∷ 49 ∷ 50 ∷ 56 ∷ 10 ∷ [])) 3 (not_written refusal.Record)  -- C2, `+1 1:128`
+    ∷ imports two_used (and_minus (43 ∷ 49 ∷ 32 ∷ 49 ∷ 58 ∷ 48 ∷ 49 ∷ 50 ∷ 56 ∷ 10 ∷ [])) 3 (not_written refusal.Text)  -- C3, `+1 1:0128`
+    ∷ imports two_used [] 3 (not_written refusal.Labels)  -- C4
+    ∷ imports two_used (45 ∷ 49 ∷ 32 ∷ 49 ∷ 58 ∷ 45 ∷ 48 ∷ 10 ∷ 43 ∷ 49 ∷ 10 ∷ []) 3 (not_written refusal.Text)  -- C5, `-1 1:-0`, `+1`
+    ∷ imports two_used (many_lines (45 ∷ 49 ∷ 10 ∷ [])) 3 (not_written refusal.Lines)  -- C6, the last `-1`
+    ∷ imports two_used (many_lines (45 ∷ 49 ∷ 32 ∷ 10 ∷ [])) 3 (not_written refusal.Text)  -- C7, the last `-1 `
     ∷ []
 
 pub settled : AllHold settled_examples

@@ -2,4 +2,3 @@
 pub mod Certifying
 pub mod Refusals
 pub mod Training
-pub mod Writing

@@ -1,7 +1,11 @@
 -- The parameters as numbers alone, as a caller in C has them. Assumes nothing.
+use Rattle.std.specs.Prelude.{Result}
 use Rattle.training_file.specs.declared.parameters.Kernel.{Kernel}
 use Rattle.training_file.specs.declared.parameters.Parameters.{Parameters}
-use Rattle.training_file.specs.Parameters.{byte_of_kernel, kernel_of_byte}
+use Rattle.training_file.specs.declared.refusal.Refusal.{Refusal}
+use Rattle.training_file.specs.declared.refusal.Refusal.TheVariants.{Header}
+use Rattle.training_file.specs.Parameters.{byte_of_kernel, kernel_allowed, kernel_of_byte}
+use Rattle.training_file.specs.Answers.{ok_if}
 use Rattle.lookahead_c.specs.declared.parameters.ParameterNumbers.{ParameterNumbers}
 
 abbrev pub parameter_numbers : Parameters → ParameterNumbers
@@ -36,3 +40,7 @@ parameters_by q kernel =
 -- the parameters that such numbers say, where the kernel's byte is allowed
 abbrev pub parameters_in : ParameterNumbers → Parameters
 parameters_in q = parameters_by q (kernel_of_byte q.kernel)
+
+-- the same, or the refusal of a byte that names no kernel
+abbrev pub parameters_answer : ParameterNumbers → Result Parameters Refusal
+parameters_answer q = ok_if (kernel_allowed q.kernel) (parameters_in q) Header

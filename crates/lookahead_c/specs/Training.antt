@@ -1,15 +1,15 @@
 -- What a call for training answers in C, by what the library answers. Assumes nothing.
-use Rattle.std.specs.Prelude.{◌≡◌, List, ℕ, zero, suc, ℤ, length, take}
+use Rattle.std.specs.Prelude.{◌≡◌, List, ℕ, zero, suc, ℤ, length, take, Result, Ok, Err}
 use Rattle.training_file.specs.declared.parameters.Parameters.{Parameters}
 use Rattle.training_file.specs.declared.item.Item.{Item}
 use Rattle.training_file.specs.declared.refusal.Refusal.{Refusal}
 use Rattle.reading.specs.Reading.{Reading, refused, accepted}
 use Rattle.dual_problem.specs.Problem.{problem}
 use Rattle.smo.specs.declared.ending.Ending.{Ending}
-use Rattle.training.specs.declared.train.Training.{Training}
-use Rattle.training.specs.declared.train.Training.TheVariants.{Refused, Ended}
-use Rattle.training.specs.Train.{ResultQuality, TrainingLeft, training_refusal}
-use Rattle.lookahead_c.specs.Numbering.{ending_number}
+use Rattle.smo.specs.declared.run.Trained.{Trained}
+use Rattle.training.specs.Train.{ResultQuality, TrainingLeft}
+use Rattle.lookahead_c.specs.declared.refusal.RefusalNumbers.{RefusalNumbers}
+use Rattle.lookahead_c.specs.Numbering.{ending_number, refusal_answered}
 
 -- the single numbers that the caller lends
 pub record TrainNumbers : Type 0 where
@@ -19,13 +19,13 @@ pub record TrainNumbers : Type 0 where
   pub upper : ℤ
 
 -- those numbers after the call, by those before it: a refusal changes none
-abbrev pub train_found : Training → TrainNumbers → TrainNumbers
-train_found (Refused why) before = before
-train_found (Ended result) before = record { ending = ending_number result.ending; steps = result.steps; lower = result.lower; upper = result.upper }
+abbrev pub train_found : Result Trained Refusal → TrainNumbers → TrainNumbers
+train_found (Err why) before = before
+train_found (Ok result) before = record { ending = ending_number result.ending; steps = result.steps; lower = result.lower; upper = result.upper }
 
 -- all that the caller sees after the call: the refusal answered, both lists and the single numbers
 pub record TrainSeen : Type 0 where
-  pub refusal : Refusal
+  pub refusal : RefusalNumbers
   pub multipliers : List ℕ
   pub gradient : List ℤ
   pub found : TrainNumbers
@@ -33,7 +33,7 @@ pub record TrainSeen : Type 0 where
 abbrev pub train_seen : TrainingLeft → TrainNumbers → TrainSeen
 train_seen left before =
     record {
-      refusal = training_refusal left.answer;
+      refusal = refusal_answered left.answer;
       multipliers = left.multipliers;
       gradient = left.gradient;
       found = train_found left.answer before;

@@ -5,7 +5,7 @@ ghost use Rattle.reading.specs.Reading.{reading};
 ghost use Rattle.certifying.specs.Certify.{certifying};
 ghost use Rattle.lookahead_c.specs.Certifying.{SeenDistance, certify_seen};
 
-use lookahead::{Certified, Refusal};
+use super::refusal::RefusalNumbers;
 
 // Both thresholds are written, or neither: a refusal leaves them as they were.
 #[unsafe(no_mangle)]
@@ -14,20 +14,18 @@ pub extern "C" fn lookahead_certify(
     multipliers: &[u32],
     lower: &mut i64,
     upper: &mut i64,
-) -> Refusal
-    ensures seen { record { refusal = result; found = record { lower = lower.exit.now; upper = upper.new } }
-        ≡ certify_seen (certifying file.now multipliers.now) (record { lower = lower.entry.now; upper = upper.old }) }
+) -> RefusalNumbers
+    ensures seen { record { refusal = result; found = record { lower = lower.new; upper = upper.new } }
+        ≡ certify_seen (certifying file.now multipliers.now) (record { lower = lower.old; upper = upper.old }) }
     ensures distance { SeenDistance (reading file.now) multipliers.now
-        (record { refusal = result; found = record { lower = lower.exit.now; upper = upper.new } }) }
+        (record { refusal = result; found = record { lower = lower.new; upper = upper.new } }) }
 {
-    let certified = lookahead::certify::certify(file, multipliers);
-    let Certified::Found(thresholds) = certified else {
-        return certified.refusal();
-    };
-    // Written from locals, as the kit before rattle-kit-13f asked of signed numbers.
-    let b_low = thresholds.lower;
-    let b_up = thresholds.upper;
-    *lower = b_low;
-    *upper = b_up;
-    Refusal::NONE
+    match lookahead::certify::certify(file, multipliers) {
+        Ok(thresholds) => {
+            *lower = thresholds.lower;
+            *upper = thresholds.upper;
+            RefusalNumbers::NONE
+        }
+        Err(refusal) => RefusalNumbers::from(refusal),
+    }
 }

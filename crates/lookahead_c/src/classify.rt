@@ -5,7 +5,7 @@ ghost use Rattle.classifying.specs.Classify.{classifying};
 ghost use Rattle.lookahead_c.specs.Classifying.{classify_seen};
 
 use super::numbering::class_number;
-use lookahead::{Classified, Refusal};
+use super::refusal::RefusalNumbers;
 
 // The class is written only where there is one: a refusal leaves it as it was.
 #[unsafe(no_mangle)]
@@ -14,14 +14,15 @@ pub extern "C" fn lookahead_classify(
     multipliers: &[u32],
     word: &[i8],
     class: &mut u8,
-) -> Refusal
+) -> RefusalNumbers
     ensures { record { refusal = result; found = class.new }
         ≡ classify_seen (classifying file.now multipliers.now word.now) class.old }
 {
-    let classified = lookahead::classify::classify(file, multipliers, word);
-    let Classified::Is(found) = classified else {
-        return classified.refusal();
-    };
-    *class = class_number(found);
-    Refusal::NONE
+    match lookahead::classify::classify(file, multipliers, word) {
+        Ok(found) => {
+            *class = class_number(found);
+            RefusalNumbers::NONE
+        }
+        Err(refusal) => RefusalNumbers::from(refusal),
+    }
 }

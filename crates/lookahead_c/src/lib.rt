@@ -10,5 +10,7 @@ mod numbering;
 pub mod parameters;
 pub mod pool;
 pub mod read;
+pub mod refusal;
 pub mod train;
 pub mod write;
+mod written;

@@ -1,4 +1,5 @@
-// The numbers that stand for an ending and for a class outside Rattle, where there are no enums.
+// The numbers that stand for an ending and for a class outside Rattle, where there are no enums. They are of the C interface alone, so that
+// neither enum has them, and each list stands here as include/lookahead.h has it.
 
 ghost use Rattle.std.specs.Prelude.{◌≡◌};
 ghost use Rattle.lookahead_c.specs.Numbering.{class_number, ending_number};

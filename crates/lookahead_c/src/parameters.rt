@@ -1,9 +1,10 @@
-// The parameters as C and Rust have them: numbers alone, the kernel by its byte.
+// The parameters as C and Rust have them: numbers alone, the kernel by its byte, since C has no enum that a call could be sure of.
+// Nothing compares or prints these.
 
 ghost use Rattle.std.specs.Prelude.{◌≡◌};
-ghost use Rattle.lookahead_c.specs.Parameters.{parameter_numbers, parameters_by};
+ghost use Rattle.lookahead_c.specs.Parameters.{parameter_numbers, parameters_answer, parameters_by};
 
-use lookahead::{Kernel, Parameters};
+use lookahead::{Kernel, Parameters, Refusal};
 
 #[repr(C)]
 #[derive(Clone, Copy)]
@@ -18,7 +19,7 @@ pub struct ParameterNumbers {
 }
 
 impl ParameterNumbers {
-    // What stands for the parameters of a file that was refused.
+    // What stands for the parameters of a file that was refused: C has no option.
     pub const NONE: ParameterNumbers = ParameterNumbers {
         used: 0,
         kernel: 0,
@@ -28,22 +29,6 @@ impl ParameterNumbers {
         tolerance: 0,
         budget: 0,
     };
-
-    pub fn of(parameters: Parameters) -> ParameterNumbers
-        ensures { result ≡ parameter_numbers parameters }
-    {
-        // Passed on from a local, as the kit before rattle-kit-13f asked of an enum.
-        let kernel = parameters.kernel;
-        ParameterNumbers {
-            used: parameters.used,
-            kernel: kernel.to_byte(),
-            grid: parameters.grid,
-            ceiling: parameters.ceiling,
-            second_ceiling: parameters.second_ceiling,
-            tolerance: parameters.tolerance,
-            budget: parameters.budget,
-        }
-    }
 
     // The parameters that the numbers say, with a kernel in the place of its byte.
     pub fn with_kernel(self, kernel: Kernel) -> Parameters
@@ -58,5 +43,32 @@ impl ParameterNumbers {
             tolerance: self.tolerance,
             budget: self.budget,
         }
+    }
+}
+
+impl From<Parameters> for ParameterNumbers {
+    ghost from_gives = { λ parameters numbers. numbers ≡ parameter_numbers parameters };
+
+    fn from(parameters: Parameters) -> ParameterNumbers {
+        ParameterNumbers {
+            used: parameters.used,
+            kernel: u8::from(parameters.kernel),
+            grid: parameters.grid,
+            ceiling: parameters.ceiling,
+            second_ceiling: parameters.second_ceiling,
+            tolerance: parameters.tolerance,
+            budget: parameters.budget,
+        }
+    }
+}
+
+// The parameters that the numbers say, or the refusal of a byte that names no kernel.
+impl TryFrom<ParameterNumbers> for Parameters {
+    type Error = Refusal;
+
+    ghost try_from_gives = { λ numbers answer. answer ≡ parameters_answer numbers };
+
+    fn try_from(numbers: ParameterNumbers) -> Result<Parameters, Refusal> {
+        Ok(numbers.with_kernel(Kernel::try_from(numbers.kernel)?))
     }
 }

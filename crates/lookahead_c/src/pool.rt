@@ -4,23 +4,19 @@ ghost use Rattle.std.specs.Prelude.{◌≡◌, length as length_of};
 ghost use Rattle.pooling.specs.Pooling.{pooling};
 ghost use Rattle.lookahead_c.specs.Writing.{write_seen};
 
-use lookahead::{Count, Refusal};
+use super::refusal::RefusalNumbers;
+use super::written::answer_written;
 
-// The output is the library's to fill; the length is written here, and only after the library has refused nothing.
+// The output is the library's to fill.
 #[unsafe(no_mangle)]
 pub extern "C" fn lookahead_pool(
     older: &[u8],
     newer: &[u8],
     output: &mut [u8],
     length: &mut usize,
-) -> Refusal
+) -> RefusalNumbers
     ensures { record { refusal = result; length = length.new; output = output.new }
         ≡ write_seen (pooling older.now newer.now (length_of output.old)) length.old output.old }
 {
-    let answer = lookahead::pool::pool(older, newer, output);
-    let Count::Counted(written) = answer else {
-        return answer.refusal();
-    };
-    *length = written;
-    Refusal::NONE
+    answer_written(lookahead::pool::pool(older, newer, output), length)
 }

@@ -6,13 +6,13 @@ ghost use Rattle.reading.specs.Calls.{file_answer, table_after};
 ghost use Rattle.lookahead_c.specs.Reading.{read_answer};
 
 use super::parameters::ParameterNumbers;
-use lookahead::{FileAnswer, Refusal};
+use super::refusal::RefusalNumbers;
 
-// It is answered by value: the kit before rattle-kit-13f covered no struct that is lent. After a refusal the other numbers are 0.
+// It is answered by value: on a refusal nothing lent is written. After a refusal the other numbers are 0. Nothing compares or prints one.
 #[repr(C)]
 #[derive(Clone, Copy)]
 pub struct ReadAnswer {
-    pub refusal: Refusal,
+    pub refusal: RefusalNumbers,
     pub items: usize,
     pub parameters: ParameterNumbers,
 }
@@ -23,17 +23,16 @@ pub extern "C" fn lookahead_read(file: &[u8], order: &mut [u16]) -> ReadAnswer
     ensures answer { result ≡ read_answer (file_answer (reading file.now)) }
     ensures order { order.new ≡ table_after (reading file.now) order.old }
 {
-    let answer = lookahead::read::read(file, order);
-    let FileAnswer::Accepted(parameters, items) = answer else {
-        return ReadAnswer {
-            refusal: answer.refusal(),
+    match lookahead::read::read(file, order) {
+        Ok((parameters, items)) => ReadAnswer {
+            refusal: RefusalNumbers::NONE,
+            items,
+            parameters: ParameterNumbers::from(parameters),
+        },
+        Err(refusal) => ReadAnswer {
+            refusal: RefusalNumbers::from(refusal),
             items: 0,
             parameters: ParameterNumbers::NONE,
-        };
-    };
-    ReadAnswer {
-        refusal: Refusal::NONE,
-        items,
-        parameters: ParameterNumbers::of(parameters),
+        },
     }
 }

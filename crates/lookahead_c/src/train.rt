@@ -6,7 +6,7 @@ ghost use Rattle.training.specs.Train.{train_file};
 ghost use Rattle.lookahead_c.specs.Training.{SeenQuality, train_seen};
 
 use super::numbering::ending_number;
-use lookahead::{Refusal, Training};
+use super::refusal::RefusalNumbers;
 
 // The lists are the library's to fill; the four numbers are written here, and only after the library has refused nothing.
 #[unsafe(no_mangle)]
@@ -18,34 +18,31 @@ pub extern "C" fn lookahead_train(
     steps: &mut u32,
     lower: &mut i64,
     upper: &mut i64,
-) -> Refusal
+) -> RefusalNumbers
     ensures seen { record {
       refusal = result;
       multipliers = multipliers.new;
       gradient = gradient.new;
-      found = record { ending = ending.exit.now; steps = steps.new; lower = lower.new; upper = upper.new };
+      found = record { ending = ending.new; steps = steps.new; lower = lower.new; upper = upper.new };
     }
         ≡ train_seen (train_file file.now multipliers.old gradient.old)
-        (record { ending = ending.entry.now; steps = steps.old; lower = lower.old; upper = upper.old }) }
+        (record { ending = ending.old; steps = steps.old; lower = lower.old; upper = upper.old }) }
     ensures quality { SeenQuality (reading file.now)
         (record {
           refusal = result;
           multipliers = multipliers.new;
           gradient = gradient.new;
-          found = record { ending = ending.exit.now; steps = steps.new; lower = lower.new; upper = upper.new };
+          found = record { ending = ending.new; steps = steps.new; lower = lower.new; upper = upper.new };
         }) }
 {
-    let training = lookahead::train::train(file, multipliers, gradient);
-    let Training::Ended(trained) = training else {
-        return training.refusal();
-    };
-    // Passed on from locals, as the kit before rattle-kit-13f asked of signed numbers and of enums.
-    let why = trained.ending;
-    let b_low = trained.lower;
-    let b_up = trained.upper;
-    *ending = ending_number(why);
-    *steps = trained.steps;
-    *lower = b_low;
-    *upper = b_up;
-    Refusal::NONE
+    match lookahead::train::train(file, multipliers, gradient) {
+        Ok(trained) => {
+            *ending = ending_number(trained.ending);
+            *steps = trained.steps;
+            *lower = trained.lower;
+            *upper = trained.upper;
+            RefusalNumbers::NONE
+        }
+        Err(refusal) => RefusalNumbers::from(refusal),
+    }
 }

@@ -2,6 +2,7 @@
 use Rattle.std.specs.Prelude.{Bool, ◌&&◌, List, ◌++◌, ℕ, eqb, leb, length}
 use Rattle.training_file.specs.declared.parameters.Parameters.{Parameters}
 use Rattle.training_file.specs.declared.item.Item.{Item}
+use Rattle.training_file.specs.declared.refusal.Refusal.TheVariants as refusal
 use Rattle.training_file.specs.Parameters.{byte_of_kernel, records_most}
 use Rattle.training_file.specs.Item.{both_labels}
 use Rattle.reading.specs.Reading.{reading}
@@ -16,13 +17,13 @@ alike older newer = eqb older.used newer.used && eqb (byte_of_kernel older.kerne
 -- of the items left: 5, then "15, over 256 items left, which takes the place of the writer's 1 and is tested after 5 and before 10". The
 -- writer's other checks, 2 and 4, can't fail here (`left_written`).
 abbrev pub write_left : (room : ℕ) → Parameters → (left : List Item) → Writing
-write_left room p left = unless 5 (both_labels left) (unless 15 (leb (length left) records_most) (write_into room p left))
+write_left room p left = unless refusal.Labels (both_labels left) (unless refusal.Pool (leb (length left) records_most) (write_into room p left))
 
 -- "The pool takes the older file's items, then the newer's", of which the last stay; "Parameters are the newer file's". "14, d or kernel
 -- differ, tested after both files"
 abbrev pub pool_items : (room : ℕ) → (older : Parameters) → List Item → (newer : Parameters) → List Item → Writing
 pool_items room older older_items newer newer_items =
-    unless 14 (alike older newer) (write_left room newer (last_only newer.used (older_items ++ newer_items)))
+    unless refusal.Unlike (alike older newer) (write_left room newer (last_only newer.used (older_items ++ newer_items)))
 
 -- "The older file is judged first, then the newer."
 unfoldable pub pooling : (older newer : List ℕ) → (room : ℕ) → Writing

@@ -5,92 +5,90 @@ ghost use Rattle.buffer.specs.Put.{Put, Room};
 ghost use Rattle.training_file.specs.declared.item.Label.TheVariants.{LookedUp};
 ghost use Rattle.training_file.specs.Layout.{feature_count};
 ghost use Rattle.training_file.specs.Parameters.{records_most};
-ghost use Rattle.training_file.specs.Item.{labelled};
+ghost use Rattle.training_file.specs.Item.{both_labels, labelled};
+ghost use Rattle.training_file.specs.Record.{Stored, label_at as label_of};
 ghost use Rattle.written_file.specs.Output.{output_after, written_answer};
-ghost use Rattle.last_items.specs.Kept.{AllStored, FewStored, items_at};
+ghost use Rattle.last_items.specs.Records.{items_of};
 ghost use Rattle.pooling.specs.Pooling.{write_left};
-ghost use Rattle.pooling.specs.Left.{both_items, records_from};
+ghost use Rattle.pooling.specs.Left.{both_left, records_from};
 
-use training_file::count::Count;
+use buffer::put::Cursor;
+use last_items::records::Records;
+use training_file::item::Label;
 use training_file::parameters::Parameters;
-use training_file::record;
+use training_file::record::Record;
 use training_file::refusal::Refusal;
 use written_file::header::put_header;
 use written_file::output::file_length;
 use written_file::record::{following, put_record};
 
-// How many of the records are of items looked up.
-fn count_looked_up(file: &[u8], numbers: &[u16]) -> usize
-    requires { AllStored file.now numbers.now }
-    ensures { result ≡ labelled LookedUp (items_at file.now numbers.now) }
+// The label of a record that was judged. It is a function, since a closure that makes a `Record` needs a clause of its own.
+fn label_at(file: &[u8], number: usize) -> Label
+    requires { Stored file.now number }
+    ensures { result ≡ label_of file.now number }
 {
-    let mut looked_up = 0;
-    let mut k = 0;
-    while k < numbers.len() {
-        let label = record::label_at(file, numbers[k] as usize);
-        looked_up += label.looked_up();
-        k += 1;
-    }
-    looked_up
+    Record { file, number }.label()
+}
+
+// How many of the records are of items looked up.
+fn count_looked_up(records: &Records) -> usize
+    ensures { result ≡ labelled LookedUp (items_of records.now) }
+{
+    records
+        .numbers
+        .iter()
+        .filter(|&&number| label_at(records.file, number as usize) == Label::LookedUp)
+        .count()
+}
+
+// Whether there are items of both labels among the records left of both files.
+fn have_both_labels(older: &Records, newer: &Records) -> bool
+    ensures { result ≡ both_labels (both_left older.now newer.now) }
+{
+    let looked_up = count_looked_up(older) + count_looked_up(newer);
+    0 < looked_up && looked_up < older.numbers.len() + newer.numbers.len()
 }
 
 // The items of records, put as records of so many in all, of which some stand before them.
-fn put_items(
-    out: &mut [u8],
-    start: usize,
-    file: &[u8],
-    numbers: &[u16],
-    before: usize,
-    records: usize,
-) -> usize
-    requires room { Room (records_from records before (items_at file.now numbers.now)) start out.old }
-    requires stored { AllStored file.now numbers.now }
-    requires most { (before + length numbers.now ≤ records) × (records ≤ records_most) }
-    ensures { Put (records_from records before (items_at file.now numbers.now)) start out.old out.new result }
+fn put_items(out: &mut Cursor, left: &Records, before: usize, records: usize)
+    requires room { Room (records_from records before (items_of left.now)) out.old }
+    requires most { (before + length left.now.numbers.now ≤ records) × (records ≤ records_most) }
+    ensures { Put (records_from records before (items_of left.now)) out.old out.new }
 {
-    let mut at = start;
-    let mut k = 0;
-    while k < numbers.len() {
-        let item = record::item_at(file, numbers[k] as usize);
-        k += 1;
-        at = put_record(out, at, following(records, before + k), item);
+    for (k, &number) in left.numbers.iter().enumerate() {
+        let record = Record {
+            file: left.file,
+            number: number as usize,
+        };
+        put_record(out, following(records, before + k + 1), record.item());
     }
-    at
 }
 
 // The file of the items left, the older file's first. They are refused where a label has none, and where there are too many.
 pub fn write_left(
-    older: &[u8],
-    older_left: &[u16],
-    newer: &[u8],
-    newer_left: &[u16],
+    older: &Records,
+    newer: &Records,
     parameters: Parameters,
     output: &mut [u8],
-) -> Count
-    requires left { FewStored older.now older_left.now × FewStored newer.now newer_left.now }
-    requires used { parameters.used ≤ feature_count }
-    ensures answer { result ≡ written_answer (write_left (length output.old) parameters
-        (both_items older.now older_left.now newer.now newer_left.now)) }
-    ensures output { output.new ≡ output_after (write_left (length output.old) parameters
-        (both_items older.now older_left.now newer.now newer_left.now)) output.old }
+) -> Result<usize, Refusal>
+    requires { parameters.used ≤ feature_count }
+    ensures answer { result ≡ written_answer (write_left (length output.old) parameters (both_left older.now newer.now)) }
+    ensures output { output.new ≡ output_after (write_left (length output.old) parameters (both_left older.now newer.now)) output.old }
 {
-    let looked_up = count_looked_up(older, older_left) + count_looked_up(newer, newer_left);
-    let left = older_left.len() + newer_left.len();
-    if looked_up == 0 {
-        return Count::Refused(Refusal::LABELS);
+    if !have_both_labels(older, newer) {
+        return Err(Refusal::Labels);
     }
-    if looked_up == left {
-        return Count::Refused(Refusal::LABELS);
-    }
+    let left = older.numbers.len() + newer.numbers.len();
     if Parameters::MAX_RECORDS < left {
-        return Count::Refused(Refusal::POOL);
+        return Err(Refusal::Pool);
     }
-    let length = file_length(left, output.len());
-    let Count::Counted(_) = length else {
-        return length;
+    let length = file_length(left, output.len())?;
+    let mut out = Cursor {
+        bytes: output,
+        at: 0,
     };
-    let records_at = put_header(output, 0, left, parameters);
-    let newer_at = put_items(output, records_at, older, older_left, 0, left);
-    put_items(output, newer_at, newer, newer_left, older_left.len(), left);
-    length
+    put_header(&mut out, left, parameters);
+    put_items(&mut out, older, 0, left);
+    put_items(&mut out, newer, older.numbers.len(), left);
+    Ok(length)
 }

@@ -10,7 +10,7 @@ use Rattle.training_file.specs.declared.parameters.Kernel.TheVariants.{Linear}
 use Rattle.training_file.specs.declared.item.Label.TheVariants.{LookedUp, PassedOver}
 use Rattle.training_file.specs.Parameters.{parameters_allowed}
 use Rattle.training_file.specs.Item.{features_allowed, labelled}
-use Rattle.training_file.specs.Refusal.{refusal, refusal_at}
+use Rattle.training_file.specs.declared.refusal.Refusal.TheVariants as refusal
 use Rattle.training_file.specs.Record.{record_allowed, every}
 use Rattle.training_file.specs.Header.{header_allowed, length_allowed}
 use Rattle.chain.specs.Walk.{records_met}
@@ -51,7 +51,7 @@ pub faults_refused :
     (take 31 sample ∷ set sample 2 4 ∷ set (set sample 28 1) 30 1 ∷ set sample 72 3 ∷ set sample 32 3 ∷ set sample 32 4 ∷ set (set sample 72 255) 73 255
     ∷ set (set sample 72 3) 74 9 ∷ set sample 74 9 ∷ set sample 76 128 ∷ set sample 34 1 ∷ set sample 2 0 ∷ [])
     ≡ map refused
-    (refusal 1 ∷ refusal 2 ∷ refusal 2 ∷ refusal_at 16 3 ∷ refusal_at 16 1 ∷ refusal_at 3 1 ∷ refusal_at 3 3
-    ∷ refusal_at 16 3 ∷ refusal 4 ∷ refusal 4 ∷ refusal 5 ∷ refusal 5 ∷ [])
+    (refusal.FileLength ∷ refusal.Header ∷ refusal.Header ∷ refusal.NextMet 3 ∷ refusal.NextMet 1 ∷ refusal.NextOver 1 ∷ refusal.NextOver 3
+    ∷ refusal.NextMet 3 ∷ refusal.Record ∷ refusal.Record ∷ refusal.Labels ∷ refusal.Labels ∷ [])
 unfolding reading length_allowed header_allowed parameters_allowed records_met every record_allowed features_allowed all labelled
 faults_refused = refl

@@ -1,4 +1,3 @@
 -- The laws of the definitions in specs/: those of X are in Laws/X.antt. No contract cites them. Assumes nothing.
-pub mod Answers
 pub mod Reading
 pub mod Calls

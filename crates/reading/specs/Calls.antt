@@ -1,23 +1,15 @@
 -- What the public calls answer, by the main definition (Reading). Assumes nothing.
-use Rattle.std.specs.Prelude.{◌≡◌, List, [], ℕ, ◌<◌, length, get_or}
+use Rattle.std.specs.Prelude.{◌≡◌, List, [], ℕ, ◌<◌, length, get_or, Result, Ok, Err}
 use Rattle.training_file.specs.declared.parameters.Parameters.{Parameters}
 use Rattle.training_file.specs.declared.item.Item.{Item}
 use Rattle.training_file.specs.declared.refusal.Refusal.{Refusal}
-use Rattle.training_file.specs.Refusal.{no_refusal}
 use Rattle.chain.specs.Answers.{table_with}
-use Rattle.reading.specs.declared.reader.FileAnswer.{FileAnswer}
-use Rattle.reading.specs.declared.reader.FileAnswer.TheVariants.{Refused, Accepted}
 use Rattle.reading.specs.Reading.{Reading, accepted, reading, refused}
 
 -- what reading a file answers: the refusal, or the parameters and how many items there are
-abbrev pub file_answer : Reading → FileAnswer
-file_answer (refused why) = Refused why
-file_answer (accepted parameters records items) = Accepted parameters (length records)
-
--- the refusal that an answer is
-abbrev pub file_refusal : FileAnswer → Refusal
-file_refusal (Refused why) = why
-file_refusal (Accepted parameters count) = no_refusal
+abbrev pub file_answer : Reading → Result (Parameters × ℕ) Refusal
+file_answer (refused why) = Err why
+file_answer (accepted parameters records items) = Ok (parameters, length records)
 
 -- the lent order table afterwards: the record numbers in chain order are written into it; on a refusal it keeps its contents
 abbrev pub table_after : Reading → List ℕ → List ℕ

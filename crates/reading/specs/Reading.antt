@@ -4,7 +4,8 @@ use Rattle.std.specs.Prelude.{Bool, true, false, List, map, ℕ}
 use Rattle.training_file.specs.declared.parameters.Parameters.{Parameters}
 use Rattle.training_file.specs.declared.item.Item.{Item}
 use Rattle.training_file.specs.declared.refusal.Refusal.{Refusal}
-use Rattle.training_file.specs.Refusal.{refusal, refusal_at}
+use Rattle.training_file.specs.declared.refusal.Refusal.TheVariants.{FileLength, Header, Record, Labels}
+use Rattle.training_file.specs.Refusal.{refusal_at}
 use Rattle.training_file.specs.Record.{item_at, record_allowed, every}
 use Rattle.training_file.specs.Item.{both_labels}
 use Rattle.training_file.specs.Header.{header_allowed, length_allowed, parameters_of}
@@ -17,19 +18,19 @@ pub data Reading : Type 0 where
   accepted : Parameters → List ℕ → List Item → Reading
 
 -- the rest of the reading, unless it is refused before
-abbrev pub unless : ℕ → Bool → Reading → Reading
-unless number true rest = rest
-unless number false rest = refused (refusal number)
+abbrev pub unless : Refusal → Bool → Reading → Reading
+unless why true rest = rest
+unless why false rest = refused why
 
 -- 3 and 16: "one walk finds either fault, and both are tested before 4". "4: on the chain, .. The whole chain is walked first." Then 5: an
 -- empty chain has neither label. A record off the chain is not judged.
 abbrev pub read_chain : List ℕ → Walk → Reading
 read_chain file (broken number r) = refused (refusal_at number r)
 read_chain file (ends records) =
-    unless 4 (every (record_allowed (parameters_of file).used file) records)
-    (unless 5 (both_labels (map (item_at file) records))
+    unless Record (every (record_allowed (parameters_of file).used file) records)
+    (unless Labels (both_labels (map (item_at file) records))
     (accepted (parameters_of file) records (map (item_at file) records)))
 
 -- "The first refusal met ends the call", in the order 1, 2, 3 or 16, 4, 5.
 unfoldable pub reading : List ℕ → Reading
-reading file = unless 1 (length_allowed file) (unless 2 (header_allowed file) (read_chain file (chain_of file)))
+reading file = unless FileLength (length_allowed file) (unless Header (header_allowed file) (read_chain file (chain_of file)))

@@ -2,10 +2,9 @@
 // table holds afterwards. The files and the answers are the second implementation's (tests/reference, program `stored`).
 #![tactic(auto)]
 
-ghost use Rattle.std.specs.Prelude.{◌<◌};
+ghost use Rattle.std.specs.Prelude.{◌≤◌};
 
 use reading::reader;
-use reading::reader::FileAnswer;
 use std::io;
 use std::io::Read;
 use training_file::bytes::u16_at;
@@ -15,75 +14,50 @@ use training_file::refusal::Refusal;
 // More files than there are.
 const MOST: usize = 1_000;
 
-// The bytes of the longest file: a record more than a file may have.
+// The bytes of the longest file: a record more than a file may have. It and the table are of a fixed length: there is no heap.
 const LONGEST: usize = 5_172;
 
 // The places of the longest order table.
 const PLACES: usize = Parameters::MAX_RECORDS;
 
-fn show_number(rt: &impl Print, number: u16) -> io::Result<()> {
-    print!(rt; " {number}")
-}
-
 // The record is shown also where it is 0, which no refusal but 3 and 16 may carry.
-fn show_refusal(rt: &impl Print, refusal: Refusal) -> io::Result<()> {
-    print!(rt; "refused")?;
-    show_number(rt, refusal.number as u16)?;
-    show_number(rt, refusal.at)
-}
-
-fn show_answer(rt: &impl Print, answer: FileAnswer) -> io::Result<()> {
-    let FileAnswer::Accepted(_, items) = answer else {
-        return show_refusal(rt, answer.refusal());
-    };
-    print!(rt; "accepted {items}")
-}
-
-fn show_table(rt: &impl Print, table: &[u16]) -> io::Result<()> {
-    for number in table {
-        show_number(rt, *number)?;
+fn show_answer(rt: &impl Print, answer: Result<(Parameters, usize), Refusal>) -> io::Result<()> {
+    match answer {
+        Ok((_, items)) => print!(rt; "accepted {items}"),
+        Err(refusal) => print!(rt; "refused {} {}", refusal.number(), refusal.record()),
     }
-    Ok(())
 }
 
-// The table holds 9s before the call, so that what reading leaves alone shows.
+// The table holds 9s before the call, so that what reading leaves alone shows. Without places the other call is tried: there is no table to lend, so
+// that a closure for each call would be no plainer.
 fn show(rt: &impl Print, file: &[u8], places: usize) -> io::Result<()>
-    requires { places < 257 }
+    requires { places ≤ 256 }
 {
     if places == 0 {
         show_answer(rt, reader::read(file))?;
     } else {
         let mut table = [9u16; PLACES];
-        let lent = &mut table[0..places];
+        let lent = &mut table[..places];
         show_answer(rt, reader::order(file, lent))?;
         print!(rt; ":")?;
-        show_table(rt, lent)?;
+        for number in lent {
+            print!(rt; " {number}")?;
+        }
     }
     println!(rt)
-}
-
-// Whether the input had enough bytes for all places. Those that it had stand in the first places.
-fn fill(input: &mut impl Read, places: &mut [u8]) -> bool {
-    input.read_exact(places).is_ok()
-}
-
-fn wide(byte: u8) -> usize
-    ensures { result < 256 }
-{
-    byte as usize
 }
 
 // The name comes after its length in one byte, which stays 0 where the input has ended. An empty name isn't shown.
 fn show_name(rt: &impl Print, input: &mut impl Read) -> io::Result<()> {
     let mut head = [0u8; 1];
-    fill(input, &mut head);
-    let length = wide(head[0]);
+    let _ = input.read_exact(&mut head);
+    let length = usize::from(head[0]);
     if length == 0 {
         return Ok(());
     }
     let mut space = [0u8; 256];
-    let name = &mut space[0..length];
-    fill(input, name);
+    let name = &mut space[..length];
+    let _ = input.read_exact(name);
     rt.write_all(name)?;
     print!(rt; ": ")
 }
@@ -92,17 +66,17 @@ fn show_name(rt: &impl Print, input: &mut impl Read) -> io::Result<()> {
 fn show_next(rt: &impl Print, input: &mut impl Read) -> io::Result<bool> {
     show_name(rt, input)?;
     let mut sizes = [0u8; 4];
-    if !fill(input, &mut sizes) {
+    if input.read_exact(&mut sizes).is_err() {
         return Ok(false);
     }
-    let places = u16_at(&sizes, 0) as usize;
-    let length = u16_at(&sizes, 2) as usize;
+    let places = usize::from(u16_at(&sizes, 0));
+    let length = usize::from(u16_at(&sizes, 2));
     if PLACES < places || LONGEST < length {
         return Ok(false);
     }
     let mut space = [0u8; LONGEST];
-    let file = &mut space[0..length];
-    if !fill(input, file) {
+    let file = &mut space[..length];
+    if input.read_exact(file).is_err() {
         return Ok(false);
     }
     show(rt, file, places)?;

@@ -1,23 +1,25 @@
 -- Document 01, "The step": the run. It is defined once, with a limit on its steps; training is the run from zeros limited by the
 -- budget. Assumes nothing.
 pub mod Meaning
-use Rattle.std.specs.Prelude.{Bool, true, false, List, ℕ, zero, suc, ◌*◌, pos, ◌+ℤ◌, replicate}
+use Rattle.std.specs.Prelude.{Bool, true, false, List, ℕ, zero, suc, ◌*◌, pos, ◌+ℤ◌, replicate, Option, None, Some}
 use Rattle.std.specs.Int.Signed.{le_z}
+use Rattle.std.specs.declared.ops.ControlFlow.{ControlFlow}
+use Rattle.std.specs.declared.ops.ControlFlow.TheVariants.{Break, Continue}
 use Rattle.dual_problem.specs.Problem.{Problem, b_up, b_low, at}
-use Rattle.working_pair.specs.declared.pair.Pair.{Pair}
-use Rattle.working_pair.specs.declared.pair.Pair.TheVariants as pair
 use Rattle.working_pair.specs.Step.{moved, amount, working_pair}
 use Rattle.working_pair.specs.Pair.{pair_of}
 use Rattle.smo.specs.declared.ending.Ending.{Ending}
 use Rattle.smo.specs.declared.ending.Ending.TheVariants.{Converged, Stuck, Spent}
-use Rattle.smo.specs.declared.run.Decision.{Decision}
-use Rattle.smo.specs.declared.run.Decision.TheVariants.{Ends, Moves}
+
+-- what the run does next: it breaks off with an ending, or continues with a pair of places
+abbrev pub Decision : Type 0
+Decision = ControlFlow Ending (ℕ × ℕ)
 
 -- "1. if b_low ≤ b_up + 2 × t, the ending is converged; 2. if no pair moves, it is stuck"; else the working pair moves
-abbrev pub decided : Bool → Pair → Decision
-decided true found = Ends Converged
-decided false pair.Nothing = Ends Stuck
-decided false (pair.At i j) = Moves i j
+abbrev pub decided : Bool → Option (ℕ × ℕ) → Decision
+decided true found = Break Converged
+decided false None = Break Stuck
+decided false (Some ij) = Continue ij
 
 -- what is done at the multipliers a
 abbrev pub decision : Problem → ℕ → List ℕ → Decision
@@ -29,8 +31,8 @@ pub data Turn : Type 0 where
   continues : List ℕ → Turn
 
 abbrev pub turn_by : Problem → List ℕ → Decision → Turn
-turn_by P a (Ends ending) = stops ending
-turn_by P a (Moves i j) = continues (moved P a i j (amount P a i j))
+turn_by P a (Break ending) = stops ending
+turn_by P a (Continue ij) = continues (moved P a ij.0 ij.1 (amount P a ij.0 ij.1))
 
 unfoldable pub turn : Problem → ℕ → List ℕ → Turn
 turn P t a = turn_by P a (decision P t a)

@@ -1,5 +1,5 @@
 // Why training ended.
-#[derive(Clone, Copy)]
+#[derive(Clone, Copy, Debug, PartialEq, Eq)]
 pub enum Ending {
     Converged,
     Stuck,

@@ -3,39 +3,21 @@
 
 ghost use Rattle.std.specs.Prelude.{◌≡◌};
 ghost use Rattle.training_file.specs.Parameters.{Ranges};
-ghost use Rattle.dual_problem.specs.FileProblem.{problem_of};
+ghost use Rattle.dual_problem.specs.Given.{problem_in};
 ghost use Rattle.thresholds.specs.Extremes.{extremes_in};
 ghost use Rattle.working_pair.specs.State.{State};
 ghost use Rattle.smo.specs.Run.{decision};
-ghost use Rattle.smo.specs.Answers.{decision_ending, run_from, trained_with};
+ghost use Rattle.smo.specs.Answers.{run_from, trained_with};
 
 use super::ending::Ending;
+use dual_problem::problem::FileProblem;
 use smo_step::step::take_step;
+use std::ops::ControlFlow;
 use thresholds::extremes::{Extremes, find_extremes};
-use training_file::parameters::Parameters;
-use working_pair::pair::{Pair, working_pair};
-
-// What is done before a step: the run ends, or a pair moves.
-#[derive(Clone, Copy)]
-pub enum Decision {
-    Ends(Ending),
-    Moves(usize, usize),
-}
-
-impl Decision {
-    // The ending, where this is one; where a pair could move, the run ends because its steps are spent.
-    fn ending(self) -> Ending
-        ensures { result ≡ decision_ending self }
-    {
-        match self {
-            Decision::Ends(ending) => ending,
-            Decision::Moves(_, _) => Ending::Spent,
-        }
-    }
-}
+use working_pair::pair::working_pair;
 
 // How a run ended: the ending, the steps taken, b_low and b_up.
-#[derive(Clone, Copy)]
+#[derive(Clone, Copy, Debug, PartialEq, Eq)]
 pub struct Trained {
     pub ending: Ending,
     pub steps: u32,
@@ -47,68 +29,62 @@ impl Trained {
     fn new(ending: Ending, steps: u32, found: Extremes) -> Trained
         ensures { result ≡ trained_with ending steps found }
     {
-        let low = found.low;
-        let up = found.up;
+        let thresholds = found.thresholds();
         Trained {
             ending,
             steps,
-            lower: low.value(),
-            upper: up.value(),
+            lower: thresholds.lower,
+            upper: thresholds.upper,
         }
     }
 }
 
-// Converged is tested before the search for a pair, and the search before the budget.
+// What is done before a step: the run breaks off with an ending, or continues with a pair that moves. Converged is tested before the
+// search for a pair.
 fn decide(
-    file: &[u8],
-    order: &[u16],
-    count: usize,
-    parameters: Parameters,
+    problem: &FileProblem,
     multipliers: &[u32],
     gradient: &[i64],
     found: Extremes,
-) -> Decision
-    requires { State file.now order.now count parameters multipliers.now gradient.now × Ranges parameters
-        × (found ≡ extremes_in file.now parameters multipliers.now gradient.now) }
-    ensures { result ≡ decision (problem_of file.now parameters) parameters.tolerance multipliers.now }
+) -> ControlFlow<Ending, (usize, usize)>
+    requires { State problem.now multipliers.now gradient.now × Ranges problem.now.parameters
+        × (found ≡ extremes_in problem.now multipliers.now gradient.now) }
+    ensures { result ≡ decision (problem_in problem.now) problem.now.parameters.tolerance multipliers.now }
 {
-    let low = found.low;
-    let up = found.up;
-    if low.value() <= up.value() + 2 * (parameters.tolerance as i64) {
-        return Decision::Ends(Ending::Converged);
+    let thresholds = found.thresholds();
+    if thresholds.lower <= thresholds.upper + 2 * (problem.parameters.tolerance as i64) {
+        return ControlFlow::Break(Ending::Converged);
     }
-    let pair = working_pair(file, order, count, parameters, multipliers, gradient, found);
-    let Pair::At(i, j) = pair else {
-        return Decision::Ends(Ending::Stuck);
-    };
-    Decision::Moves(i, j)
+    match working_pair(problem, multipliers, gradient, found) {
+        Some(pair) => ControlFlow::Continue(pair),
+        None => ControlFlow::Break(Ending::Stuck),
+    }
 }
 
-// From the multipliers handed in, with G of each item in the other list, at most `limit` steps.
+// From the multipliers handed in, with G of each item in the other list, at most `limit` steps. That they are spent is looked at after the
+// search for a pair.
 pub fn run(
-    file: &[u8],
-    order: &[u16],
-    count: usize,
-    parameters: Parameters,
+    problem: &FileProblem,
     limit: u32,
     multipliers: &mut [u32],
     gradient: &mut [i64],
 ) -> Trained
-    requires { State file.now order.now count parameters multipliers.old gradient.old × Ranges parameters }
+    requires { State problem.now multipliers.old gradient.old × Ranges problem.now.parameters }
     ensures { record { trained = result; multipliers = multipliers.new; gradient = gradient.new }
-        ≡ run_from file.now parameters count limit multipliers.old gradient.old }
+        ≡ run_from problem.now limit multipliers.old gradient.old }
 {
-    let mut steps: u32 = 0;
-    loop {
-        let found = find_extremes(file, order, count, parameters, multipliers, gradient);
-        let decision = decide(file, order, count, parameters, multipliers, gradient, found);
-        let Decision::Moves(i, j) = decision else {
-            return Trained::new(decision.ending(), steps, found);
-        };
-        if steps == limit {
-            return Trained::new(Ending::Spent, steps, found);
+    for steps in 0..limit {
+        let found = find_extremes(problem, multipliers, gradient);
+        match decide(problem, multipliers, gradient, found) {
+            ControlFlow::Break(ending) => return Trained::new(ending, steps, found),
+            ControlFlow::Continue((i, j)) => take_step(problem, multipliers, gradient, i, j),
         }
-        take_step(file, order, count, parameters, multipliers, gradient, i, j);
-        steps += 1;
     }
+    let found = find_extremes(problem, multipliers, gradient);
+    let decision = decide(problem, multipliers, gradient, found);
+    Trained::new(
+        decision.break_value().unwrap_or(Ending::Spent),
+        limit,
+        found,
+    )
 }

@@ -3,19 +3,16 @@
 ghost use Rattle.std.specs.Prelude.{◌≡◌, ◌+◌, ◌*◌, ◌≤◌, nat_abs};
 ghost use Rattle.integers.specs.Written.{written};
 ghost use Rattle.training_file.specs.Parameters.{Ranges, ceiling_most};
-ghost use Rattle.reading.specs.Reading.{reading};
-ghost use Rattle.reading.specs.Calls.{items_in};
 ghost use Rattle.dual_problem.specs.Size.{gradient_most, kernel_most, term_most};
-ghost use Rattle.dual_problem.specs.FileProblem.{problem_of};
-ghost use Rattle.working_pair.specs.Step.{Candidate, moved_pair, raised, rise};
+ghost use Rattle.dual_problem.specs.Given.{count_in, problem_in};
+ghost use Rattle.working_pair.specs.Step.{Candidate, raised, rise};
 ghost use Rattle.working_pair.specs.State.{State};
-ghost use Rattle.smo_step.specs.Update.{stepped, stepped_gradient, shifted, updated, Movable, Updatable};
+ghost use Rattle.smo_step.specs.Update.{stepped, stepped_gradient, shifted, updated, Updatable};
 
 use dual_problem::kernel::kernel_of_features;
-use reading::reader::fetch;
+use dual_problem::problem::FileProblem;
 use training_file::item::{Item, Label};
-use training_file::parameters::Parameters;
-use working_pair::amount::pair_amount;
+use working_pair::amount::{Holding, pair_amount};
 
 // What becomes of a multiplier where it times y rises by the amount. Where it falls, it rises under the opposite label.
 fn raise(label: Label, multiplier: u32, amount: u32) -> u32
@@ -28,24 +25,6 @@ fn raise(label: Label, multiplier: u32, amount: u32) -> u32
     }
 }
 
-// Lowers the multiplier at place i, times y, by the amount, and raises the one at place j.
-fn move_pair(
-    multipliers: &mut [u32],
-    i: usize,
-    i_label: Label,
-    j: usize,
-    j_label: Label,
-    amount: u32,
-)
-    requires { Movable multipliers.old i i_label j j_label amount }
-    ensures { multipliers.new ≡ moved_pair multipliers.old i i_label j j_label amount }
-{
-    let lower_one = raise(i_label.opposite(), multipliers[i], amount);
-    let higher_one = raise(j_label, multipliers[j], amount);
-    multipliers[i] = lower_one;
-    multipliers[j] = higher_one;
-}
-
 // G of an item after a move: the amount times the kernel value with the item at j less the one with the item at i is added.
 fn shift(value: i64, amount: u32, kernel_j: i64, kernel_i: i64) -> i64
     requires { (nat_abs value ≤ gradient_most) × (amount ≤ ceiling_most)
@@ -53,64 +32,45 @@ fn shift(value: i64, amount: u32, kernel_j: i64, kernel_i: i64) -> i64
     ensures value { result ≡ shifted value amount kernel_j kernel_i }
     ensures size { nat_abs result ≤ gradient_most + 2 * term_most }
 {
-    value + (amount as i64) * (kernel_j - kernel_i)
+    value + i64::from(amount) * (kernel_j - kernel_i)
 }
 
 // Brings G of each item up to date after the item x moved down and the item z up by the amount; later places keep theirs.
-fn update_gradient(
-    file: &[u8],
-    order: &[u16],
-    count: usize,
-    parameters: Parameters,
-    gradient: &mut [i64],
-    x: Item,
-    z: Item,
-    amount: u32,
-)
-    requires { Updatable file.now order.now count parameters gradient.old amount }
+fn update_gradient(problem: &FileProblem, gradient: &mut [i64], x: Item, z: Item, amount: u32)
+    requires { Updatable problem.now gradient.old amount }
     ensures { gradient.new
-        ≡ written count (updated parameters (items_in (reading file.now)) x.features z.features amount gradient.old)
-        gradient.old }
+        ≡ written (count_in problem.now) (updated problem.now x.features z.features amount gradient.old) gradient.old }
 {
-    let xs = x.features;
-    let zs = z.features;
-    let mut k = 0;
-    while k < count {
-        let item = fetch(file, order, k);
-        let features = item.features;
+    for k in 0..problem.count() {
+        let features = problem.item(k).features;
         gradient[k] = shift(
             gradient[k],
             amount,
-            kernel_of_features(parameters, &zs, &features),
-            kernel_of_features(parameters, &xs, &features),
+            kernel_of_features(problem.parameters, &z.features, &features),
+            kernel_of_features(problem.parameters, &x.features, &features),
         );
-        k += 1;
     }
 }
 
-// One step: the move of a candidate pair by its amount.
+// One step: the move of a candidate pair by its amount. It lowers the multiplier at i, times y, and raises the one at j. The two lists are
+// no struct with the fact `State` (as `Standing`, which only reads them): between the two writes that fact doesn't hold of them.
 pub fn take_step(
-    file: &[u8],
-    order: &[u16],
-    count: usize,
-    parameters: Parameters,
+    problem: &FileProblem,
     multipliers: &mut [u32],
     gradient: &mut [i64],
     i: usize,
     j: usize,
 )
-    requires { State file.now order.now count parameters multipliers.old gradient.old × Ranges parameters
-        × Candidate (problem_of file.now parameters) multipliers.old i j }
-    ensures multipliers { multipliers.new ≡ stepped (problem_of file.now parameters) multipliers.old i j }
+    requires { State problem.now multipliers.old gradient.old × Ranges problem.now.parameters
+        × Candidate (problem_in problem.now) multipliers.old i j }
+    ensures multipliers { multipliers.new ≡ stepped (problem_in problem.now) multipliers.old i j }
     ensures gradient { gradient.new
-        ≡ stepped_gradient (problem_of file.now parameters) multipliers.old i j count gradient.old }
+        ≡ stepped_gradient (problem_in problem.now) multipliers.old i j (count_in problem.now) gradient.old }
 {
-    let x = fetch(file, order, i);
-    let z = fetch(file, order, j);
-    let slope = gradient[i] - gradient[j];
-    let amount = pair_amount(parameters, x, multipliers[i], z, multipliers[j], slope);
-    let i_label = x.label;
-    let j_label = z.label;
-    move_pair(multipliers, i, i_label, j, j_label, amount);
-    update_gradient(file, order, count, parameters, gradient, x, z, amount);
+    let x = Holding::at(problem, multipliers, i);
+    let z = Holding::at(problem, multipliers, j);
+    let amount = pair_amount(problem.parameters, x, z, gradient[i] - gradient[j]);
+    multipliers[i] = raise(x.item.label.opposite(), x.multiplier, amount);
+    multipliers[j] = raise(z.item.label, z.multiplier, amount);
+    update_gradient(problem, gradient, x.item, z.item, amount);
 }

@@ -1,4 +1,4 @@
-// Decimal numbers put into a lent buffer. It may use `integers` and `buffer`.
+// Decimal numbers put into a lent buffer. It may use `integers`, `buffer` and the kit's `itoa`.
 #![tactic(auto)]
 
 pub mod number;

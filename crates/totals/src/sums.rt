@@ -1,11 +1,12 @@
 // What the line of an item shows, and the totals of such lines (document 02, request (l)).
 
 ghost use Rattle.std.specs.Prelude.{◌≡◌, ◌+◌, ◌^◌, ◌<◌};
-ghost use Rattle.totals.specs.Totals.{both, one_above_zero, totals_of_line};
+ghost use Rattle.totals.specs.Totals.{both, totals_of_line};
 
+use std::ops::AddAssign;
 use training_file::item::Label;
 
-// What the line of an item shows.
+// What the line of an item shows. Nothing compares or prints one but as that line.
 #[derive(Clone, Copy)]
 pub struct Shown {
     pub number: u16,
@@ -13,40 +14,22 @@ pub struct Shown {
     pub multiplier: u32,
 }
 
-// How many multipliers are above 0, and the sums of the multipliers over label +1 and over label -1.
-#[derive(Clone, Copy)]
+// How many multipliers are above 0, and the sums of the multipliers over label +1 and over label -1; by default those of no lines.
+#[derive(Clone, Copy, Default)]
 pub struct Totals {
     pub count: u64,
     pub plus: u64,
     pub minus: u64,
 }
 
-// What a multiplier adds to the count of those above 0.
-fn one_above_zero(multiplier: u32) -> u64
-    ensures { result ≡ one_above_zero multiplier }
-{
-    if 0 < multiplier {
-        return 1;
-    }
-    0
-}
+// The totals of one line.
+impl From<Shown> for Totals {
+    ghost from_gives = { λ shown totals. totals ≡ totals_of_line shown };
 
-impl Totals {
-    // The totals of no lines.
-    pub const NONE: Totals = Totals {
-        count: 0,
-        plus: 0,
-        minus: 0,
-    };
-
-    // The totals of one line.
-    pub fn of_line(shown: Shown) -> Totals
-        ensures { result ≡ totals_of_line shown }
-    {
-        let count = one_above_zero(shown.multiplier);
-        let multiplier = shown.multiplier as u64;
-        let label = shown.label;
-        match label {
+    fn from(shown: Shown) -> Totals {
+        let count = u64::from(0 < shown.multiplier);
+        let multiplier = u64::from(shown.multiplier);
+        match shown.label {
             Label::LookedUp => Totals {
                 count,
                 plus: multiplier,
@@ -59,16 +42,18 @@ impl Totals {
             },
         }
     }
+}
 
-    // The totals of the lines of both.
-    pub fn and(self, more: Totals) -> Totals
-        requires { (self.count + more.count < 2 ^ 64) × (self.plus + more.plus < 2 ^ 64) × (self.minus + more.minus < 2 ^ 64) }
-        ensures { result ≡ both self more }
-    {
-        Totals {
-            count: self.count + more.count,
-            plus: self.plus + more.plus,
-            minus: self.minus + more.minus,
-        }
+// The totals of the lines of both.
+impl AddAssign for Totals {
+    ghost can_add_assign = { λ some more.
+        (some.count + more.count < 2 ^ 64) × (some.plus + more.plus < 2 ^ 64) × (some.minus + more.minus < 2 ^ 64) };
+
+    ghost add_assign_gives = { λ some more sum. sum ≡ both some more };
+
+    fn add_assign(&mut self, more: Totals) {
+        self.count += more.count;
+        self.plus += more.plus;
+        self.minus += more.minus;
     }
 }

@@ -11,25 +11,15 @@ use std::io::{Read, Write};
 use training_file::layout;
 use training_file::parameters::Parameters;
 
-// What standard input gave: so many bytes, or an error.
-#[derive(Clone, Copy)]
-pub enum Input {
-    Bytes(usize),
-    Failed,
-}
-
 // What a read into these places returned: so many bytes, 0 at the end of the input, or an error.
-fn input_of(got: io::Result<usize>, places: &[u8]) -> Input
+fn input_of(got: io::Result<usize>, places: &[u8]) -> io::Result<usize>
     ensures { result ≡ input_of got (length places.now) }
 {
-    match got {
-        Ok(count) => Input::Bytes(count.min(places.len())),
-        Err(_) => Input::Failed,
-    }
+    got.map(|count| count.min(places.len()))
 }
 
 // One read, into the buffer from a place on.
-fn read_some(reader: &mut impl Read, buffer: &mut [u8], from: usize) -> Input
+fn read_some(reader: &mut impl Read, buffer: &mut [u8], from: usize) -> io::Result<usize>
     requires { from ≤ length buffer.old }
     ensures { FitsBuffer from result buffer.old }
 {
@@ -40,33 +30,29 @@ fn read_some(reader: &mut impl Read, buffer: &mut [u8], from: usize) -> Input
 
 // Reads until the buffer is full or the input ends. An input that is longer is cut, so the buffer has to be of a length at which that does
 // not change the listing.
-fn read_input(reader: &mut impl Read, buffer: &mut [u8]) -> Input
+fn read_input(reader: &mut impl Read, buffer: &mut [u8]) -> io::Result<usize>
     requires { SameWhenCut (length buffer.old) }
     ensures { FitsBuffer 0 result buffer.old }
 {
     let mut count = 0;
     while count < buffer.len() {
-        let input = read_some(reader, buffer, count);
-        let Input::Bytes(more) = input else {
-            return Input::Failed;
-        };
+        let more = read_some(reader, buffer, count)?;
         if more == 0 {
-            return Input::Bytes(count);
+            break;
         }
         count += more;
     }
-    Input::Bytes(count)
+    Ok(count)
 }
 
 // A place more than the longest file that is accepted: a file that fills them all is longer than any that is accepted, and is refused with
-// 1 for its length, whatever bytes follow. So no further byte has to be read.
+// 1 for its length, whatever bytes follow. So no further byte has to be read. Both buffers are of a fixed length, since nothing here uses the heap.
 const PLACES: usize = layout::HEADER_LENGTH + layout::RECORD_LENGTH * Parameters::MAX_RECORDS + 1;
 
 #[tactic(auto, using(crate::proofs::Laws::Cut::cut_same))]
 fn main(rt: HostRuntime) {
     let mut file = [0u8; PLACES];
-    let input = read_input(&mut rt.stdin(), &mut file);
-    let Input::Bytes(count) = input else {
+    let Ok(count) = read_input(&mut rt.stdin(), &mut file) else {
         let _ = rt.eprintln("train: standard input cannot be read");
         return;
     };

@@ -4,37 +4,17 @@ ghost use Rattle.std.specs.Prelude.{◌≡◌};
 ghost use Rattle.training_file.specs.declared.item.Label.TheVariants.{LookedUp};
 ghost use Rattle.training_file.specs.Item.{byte_of_label, item_of, label_of_byte, opposite as opposite_of, same};
 ghost use Rattle.training_file.specs.Item.{feature_allowed, features_allowed, label_allowed, zero_past};
-ghost use Rattle.training_file.specs.Answers.{item_answer, label_refusal};
-
-use super::range::within;
-use super::refusal::Refusal;
+ghost use Rattle.training_file.specs.Answers.{item_answer};
 
 // What the log says of a word.
-#[derive(Clone, Copy)]
+#[derive(Clone, Copy, Debug, PartialEq, Eq)]
 pub enum Label {
     LookedUp,
     PassedOver,
 }
 
-#[derive(Clone, Copy)]
-pub enum LabelAnswer {
-    Refused(Refusal),
-    Known(Label),
-}
-
-impl LabelAnswer {
-    // The refusal, where this is one; a label that is known is no refusal, and gives the number 0.
-    pub fn refusal(self) -> Refusal
-        ensures { result ≡ label_refusal self }
-    {
-        match self {
-            LabelAnswer::Refused(refusal) => refusal,
-            LabelAnswer::Known(_) => Refusal::NONE,
-        }
-    }
-}
-
 impl Label {
+    // The numbers are those of the file's format: a record has them for its label, and so has a row of the writer.
     pub const LOOKED_UP: u8 = 1;
 
     pub const PASSED_OVER: u8 = 2;
@@ -43,14 +23,11 @@ impl Label {
     fn allows(byte: u8) -> bool
         ensures { result ≡ label_allowed byte }
     {
-        within(
-            Label::LOOKED_UP as u64,
-            Label::PASSED_OVER as u64,
-            byte as u64,
-        )
+        (Label::LOOKED_UP..=Label::PASSED_OVER).contains(&byte)
     }
 
-    // The label that a byte stands for: one that is not looked up is passed over. Nothing rests on that of a byte that isn't allowed.
+    // The label that a byte stands for: one that is not looked up is passed over. Nothing rests on that of a byte that isn't allowed, so that it
+    // is no `From`, which would say that every byte is a label.
     pub fn of_byte(byte: u8) -> Label
         ensures { result ≡ label_of_byte byte }
     {
@@ -58,16 +35,6 @@ impl Label {
             Label::LookedUp
         } else {
             Label::PassedOver
-        }
-    }
-
-    // The byte that a record has for it.
-    pub fn to_byte(self) -> u8
-        ensures { result ≡ byte_of_label self }
-    {
-        match self {
-            Label::LookedUp => Label::LOOKED_UP,
-            Label::PassedOver => Label::PASSED_OVER,
         }
     }
 
@@ -81,7 +48,8 @@ impl Label {
         }
     }
 
-    // 1 for a label that is looked up, 0 for the other: what the item adds to a count of the items looked up.
+    // 1 for a label that is looked up, 0 for the other: what the item adds to a count of the items looked up. It is a match, as is all that a
+    // label decides.
     pub fn looked_up(self) -> usize
         ensures { result ≡ same LookedUp self }
     {
@@ -92,23 +60,28 @@ impl Label {
     }
 }
 
-// The features come first, so that a copy of an item moves all sixteen as one block and what is read of them next need not wait for two.
+// The byte that a record has for it.
+impl From<Label> for u8 {
+    ghost from_gives = { λ label byte. byte ≡ byte_of_label label };
+
+    fn from(label: Label) -> u8 {
+        match label {
+            Label::LookedUp => Label::LOOKED_UP,
+            Label::PassedOver => Label::PASSED_OVER,
+        }
+    }
+}
+
+// The features come first, so that a copy of an item moves all sixteen as one block and what is read of them next need not wait for two. Nothing
+// compares or prints one whole.
 #[derive(Clone, Copy)]
 pub struct Item {
     pub features: [i8; Item::FEATURE_COUNT],
     pub label: Label,
 }
 
-// What `Item::new` answers: whether the label's byte and the features are allowed, and the item that they make. It is no enum, since the kit
-// before rattle-kit-13f covered none that holds an array.
-#[derive(Clone, Copy)]
-pub struct ItemAnswer {
-    pub allowed: bool,
-    pub item: Item,
-}
-
 impl Item {
-    // How many features an item has, in use or not.
+    // How many features an item has, in use or not: a record has as many, and there is no heap for fewer.
     pub const FEATURE_COUNT: usize = 16;
 
     pub const MIN_FEATURE: i8 = -127;
@@ -119,11 +92,7 @@ impl Item {
     fn allows(feature: i8) -> bool
         ensures { result ≡ feature_allowed feature }
     {
-        if Item::MIN_FEATURE <= feature {
-            feature <= Item::MAX_FEATURE
-        } else {
-            false
-        }
+        (Item::MIN_FEATURE..=Item::MAX_FEATURE).contains(&feature)
     }
 
     // Whether the features past the first `used` are 0: whether the last one that is not 0 is among these. A loop over all sixteen that
@@ -132,12 +101,10 @@ impl Item {
         ensures { result ≡ zero_past used features }
     {
         let mut end = 0;
-        let mut i = 0;
-        while i < Item::FEATURE_COUNT {
-            if features[i] != 0 {
+        for (i, feature) in features.iter().enumerate() {
+            if *feature != 0 {
                 end = i + 1;
             }
-            i += 1;
         }
         end <= used
     }
@@ -149,17 +116,15 @@ impl Item {
         if !Item::zero_past(features, used) {
             return false;
         }
-        let mut i = 0;
-        while i < Item::FEATURE_COUNT {
-            if !Item::allows(features[i]) {
+        for feature in features.iter() {
+            if !Item::allows(*feature) {
                 return false;
             }
-            i += 1;
         }
         true
     }
 
-    // The item of a label's byte and features that were judged.
+    // The item of a label's byte and features that were judged. It takes two values, and so is no `From`.
     pub fn of(label: u8, features: [i8; Item::FEATURE_COUNT]) -> Item
         ensures { result ≡ item_of label features }
     {
@@ -169,13 +134,14 @@ impl Item {
         }
     }
 
-    // The same of a label's byte and features of which the first `used` are in use, judged.
-    pub fn new(label: u8, features: [i8; Item::FEATURE_COUNT], used: usize) -> ItemAnswer
+    // The same of a label's byte and features of which the first `used` are in use; none where these are not allowed.
+    pub fn new(label: u8, features: [i8; Item::FEATURE_COUNT], used: usize) -> Option<Item>
         ensures { result ≡ item_answer used label features }
     {
-        ItemAnswer {
-            allowed: Label::allows(label) & Item::allows_all(features, used),
-            item: Item::of(label, features),
+        if Label::allows(label) && Item::allows_all(features, used) {
+            Some(Item::of(label, features))
+        } else {
+            None
         }
     }
 }

@@ -2,73 +2,59 @@
 
 ghost use Rattle.std.specs.Prelude.{◌≡◌};
 ghost use Rattle.training_file.specs.Parameters.{byte_of_kernel, ceilings_allowed, parameters_allowed};
-ghost use Rattle.training_file.specs.Answers.{kernel_answer, kernel_refusal};
+ghost use Rattle.training_file.specs.Answers.{kernel_answer};
 
 use super::item::Item;
-use super::range::within;
 use super::refusal::Refusal;
 
 // Which kernel compares two items.
-#[derive(Clone, Copy)]
+#[derive(Clone, Copy, Debug, PartialEq, Eq)]
 pub enum Kernel {
     Linear,
     Square,
     Overlap,
 }
 
-#[derive(Clone, Copy)]
-pub enum KernelAnswer {
-    Refused(Refusal),
-    Known(Kernel),
-}
-
-impl KernelAnswer {
-    // The refusal, where this is one; a kernel that is known is no refusal, and gives the number 0.
-    pub fn refusal(self) -> Refusal
-        ensures { result ≡ kernel_refusal self }
-    {
-        match self {
-            KernelAnswer::Refused(refusal) => refusal,
-            KernelAnswer::Known(_) => Refusal::NONE,
-        }
-    }
-}
-
 impl Kernel {
+    // The numbers are those of the file's format: a header has them for its kernel, and so has C.
     pub const LINEAR: u8 = 0;
 
     pub const SQUARE: u8 = 1;
 
     pub const OVERLAP: u8 = 2;
+}
 
-    // The byte that a header has for it.
-    pub fn to_byte(self) -> u8
-        ensures { result ≡ byte_of_kernel self }
-    {
-        match self {
+// The byte that a header has for it.
+impl From<Kernel> for u8 {
+    ghost from_gives = { λ kernel byte. byte ≡ byte_of_kernel kernel };
+
+    fn from(kernel: Kernel) -> u8 {
+        match kernel {
             Kernel::Linear => Kernel::LINEAR,
             Kernel::Square => Kernel::SQUARE,
             Kernel::Overlap => Kernel::OVERLAP,
         }
     }
+}
 
-    // The kernel that a header names.
-    pub fn from_byte(byte: u8) -> KernelAnswer
-        ensures { result ≡ kernel_answer byte }
-    {
-        if byte == Kernel::LINEAR {
-            return KernelAnswer::Known(Kernel::Linear);
+// The kernel that a header names.
+impl TryFrom<u8> for Kernel {
+    type Error = Refusal;
+
+    ghost try_from_gives = { λ byte answer. answer ≡ kernel_answer byte };
+
+    fn try_from(byte: u8) -> Result<Kernel, Refusal> {
+        match byte {
+            Kernel::LINEAR => Ok(Kernel::Linear),
+            Kernel::SQUARE => Ok(Kernel::Square),
+            Kernel::OVERLAP => Ok(Kernel::Overlap),
+            _ => Err(Refusal::Header),
         }
-        if byte == Kernel::SQUARE {
-            return KernelAnswer::Known(Kernel::Square);
-        }
-        if byte == Kernel::OVERLAP {
-            return KernelAnswer::Known(Kernel::Overlap);
-        }
-        KernelAnswer::Refused(Refusal::HEADER)
     }
 }
 
+// The public calls take any, also those that they refuse. So it has no invariant, and a function that needs `used` to be sixteen at most asks for
+// that. Nothing compares or prints one whole.
 #[derive(Clone, Copy)]
 pub struct Parameters {
     // d, how many of an item's features are in use.
@@ -118,52 +104,21 @@ impl Parameters {
     fn ceilings_within(ceiling: u32, second_ceiling: u32) -> bool
         ensures { result ≡ ceilings_allowed ceiling second_ceiling }
     {
-        if !within(
-            Parameters::MIN_CEILING as u64,
-            Parameters::MAX_CEILING as u64,
-            ceiling as u64,
-        ) {
-            return false;
-        }
-        within(
-            Parameters::MIN_SECOND_CEILING as u64,
-            Parameters::MAX_SECOND_CEILING as u64,
-            second_ceiling as u64,
-        )
+        (Parameters::MIN_CEILING..=Parameters::MAX_CEILING).contains(&ceiling)
+            && (Parameters::MIN_SECOND_CEILING..=Parameters::MAX_SECOND_CEILING).contains(
+                &second_ceiling,
+            )
     }
 
     // Whether each field is within its range.
+    #[tactic(auto, unfolding(crate::specs::Parameters::parameters_allowed))]
     pub fn allowed(self) -> bool
         ensures { result ≡ parameters_allowed self }
     {
-        if !within(
-            Parameters::MIN_USED as u64,
-            Parameters::MAX_USED as u64,
-            self.used as u64,
-        ) {
-            return false;
-        }
-        if !within(
-            Parameters::MIN_GRID as u64,
-            Parameters::MAX_GRID as u64,
-            self.grid as u64,
-        ) {
-            return false;
-        }
-        if !Parameters::ceilings_within(self.ceiling, self.second_ceiling) {
-            return false;
-        }
-        if !within(
-            Parameters::MIN_TOLERANCE,
-            Parameters::MAX_TOLERANCE,
-            self.tolerance,
-        ) {
-            return false;
-        }
-        within(
-            Parameters::MIN_BUDGET as u64,
-            Parameters::MAX_BUDGET as u64,
-            self.budget as u64,
-        )
+        (Parameters::MIN_USED..=Parameters::MAX_USED).contains(&self.used)
+            && (Parameters::MIN_GRID..=Parameters::MAX_GRID).contains(&self.grid)
+            && Parameters::ceilings_within(self.ceiling, self.second_ceiling)
+            && (Parameters::MIN_TOLERANCE..=Parameters::MAX_TOLERANCE).contains(&self.tolerance)
+            && (Parameters::MIN_BUDGET..=Parameters::MAX_BUDGET).contains(&self.budget)
     }
 }

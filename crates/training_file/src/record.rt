@@ -1,97 +1,95 @@
 // One record of the file: its next number, its feature bytes as a part of the file, its judgement, and its item.
-// What they require is met by `reading`, which has judged the file's length.
 
-ghost use Rattle.std.specs.Prelude.{◌≡◌, ◌+◌, ◌*◌, ◌^◌, ◌≤◌, ◌<◌};
-ghost use Rattle.training_file.specs.declared.layout.TheConstants.{HEADER_LENGTH, RECORD_LENGTH};
+ghost use Rattle.std.specs.Prelude.{◌≡◌};
 ghost use Rattle.training_file.specs.Layout.{feature_bytes, label_byte, next_of, record_start};
 ghost use Rattle.training_file.specs.Record.{Stored, features_at, item_at, label_at};
 ghost use Rattle.training_file.specs.Answers.{item_answer, record_answer};
 
 use super::bytes::{signed_byte, u16_at};
-use super::item::{Item, ItemAnswer, Label, LabelAnswer};
+use super::item::{Item, Label};
 use super::layout;
 use super::refusal::Refusal;
 
-// Where the record of a number starts in the file.
-fn start(number: usize) -> usize
-    requires { (1 ≤ number) × (HEADER_LENGTH + RECORD_LENGTH * number < 2 ^ 64) }
-    ensures { result ≡ record_start number }
-{
-    layout::HEADER_LENGTH + layout::RECORD_LENGTH * (number - 1)
+// The record of a number, which stands whole in the borrowed file: `reading` has judged the file's length. Nothing compares or prints one.
+#[derive(Clone, Copy)]
+pub struct Record<'a> {
+    pub file: &'a [u8],
+    pub number: usize,
+    ghost stored: { Stored file.now number },
 }
 
-// The number of the record that follows, 0 where the chain ends.
-pub fn next(file: &[u8], number: usize) -> usize
-    requires { Stored file.now number }
-    ensures { result ≡ next_of file.now number }
-{
-    u16_at(file, start(number) + layout::NEXT) as usize
-}
-
-// The record's sixteen feature bytes, where they stand in the file.
-pub fn feature_part(file: &[u8], number: usize) -> &[u8]
-    requires { Stored file.now number }
-    ensures { result.now ≡ feature_bytes file.now number }
-{
-    let from = start(number) + layout::FEATURES;
-    let to = from + Item::FEATURE_COUNT;
-    &file[from..to]
-}
-
-// The record's sixteen features.
-fn features(file: &[u8], number: usize) -> [i8; Item::FEATURE_COUNT]
-    requires { Stored file.now number }
-    ensures { result ≡ features_at file.now number }
-{
-    let part = feature_part(file, number);
-    let mut features = [0i8; Item::FEATURE_COUNT];
-    let mut i = 0;
-    while i < Item::FEATURE_COUNT {
-        features[i] = signed_byte(part[i]);
-        i += 1;
+impl<'a> Record<'a> {
+    // Where it starts in the file.
+    fn start(self) -> usize
+        ensures { result ≡ record_start self.entry.number }
+    {
+        layout::HEADER_LENGTH + layout::RECORD_LENGTH * (self.number - 1)
     }
-    features
-}
 
-// The record's label and features as an item, judged with the first `used` features in use.
-fn read_item(file: &[u8], number: usize, used: usize) -> ItemAnswer
-    requires { Stored file.now number }
-    ensures { result ≡ item_answer used (label_byte file.now number) (features_at file.now number) }
-{
-    let label = file[start(number) + layout::LABEL];
-    Item::new(label, features(file, number), used)
-}
-
-// The label of a record on the chain whose bytes are all allowed.
-pub fn judge_record(file: &[u8], number: usize, used: usize) -> LabelAnswer
-    requires { Stored file.now number }
-    ensures { result ≡ record_answer used file.now number }
-{
-    if file[start(number) + layout::ZERO] != 0 {
-        return LabelAnswer::Refused(Refusal::RECORD);
+    // The number of the record that follows, 0 where the chain ends.
+    pub fn next(self) -> usize
+        ensures { result ≡ next_of self.entry.file.now self.entry.number }
+    {
+        u16_at(self.file, self.start() + layout::NEXT) as usize
     }
-    let answer = read_item(file, number, used);
-    if !answer.allowed {
-        return LabelAnswer::Refused(Refusal::RECORD);
+
+    // Its sixteen feature bytes, where they stand in the file.
+    pub fn feature_part(self) -> &'a [u8]
+        ensures { result.now ≡ feature_bytes self.entry.file.now self.entry.number }
+    {
+        let from = self.start() + layout::FEATURES;
+        &self.file[from..from + Item::FEATURE_COUNT]
     }
-    let item = answer.item;
-    let label = item.label;
-    LabelAnswer::Known(label)
-}
 
-// The label of a record that was judged.
-pub fn label_at(file: &[u8], number: usize) -> Label
-    requires { Stored file.now number }
-    ensures { result ≡ label_at file.now number }
-{
-    Label::of_byte(file[start(number) + layout::LABEL])
-}
+    // Its sixteen features.
+    fn features(self) -> [i8; Item::FEATURE_COUNT]
+        ensures { result ≡ features_at self.entry.file.now self.entry.number }
+    {
+        let part = self.feature_part();
+        let mut features = [0i8; Item::FEATURE_COUNT];
+        for (i, byte) in part.iter().enumerate() {
+            features[i] = signed_byte(*byte);
+        }
+        features
+    }
 
-// The item of a record that was judged.
-pub fn item_at(file: &[u8], number: usize) -> Item
-    requires { Stored file.now number }
-    ensures { result ≡ item_at file.now number }
-{
-    let label = file[start(number) + layout::LABEL];
-    Item::of(label, features(file, number))
+    // Its label's byte, whatever it is.
+    fn label_byte(self) -> u8
+        ensures { result ≡ label_byte self.entry.file.now self.entry.number }
+    {
+        self.file[self.start() + layout::LABEL]
+    }
+
+    // Its label and features as an item, judged with the first `used` features in use.
+    fn read_item(self, used: usize) -> Option<Item>
+        ensures { result ≡ item_answer used (label_byte self.entry.file.now self.entry.number) (features_at self.entry.file.now self.entry.number) }
+    {
+        Item::new(self.label_byte(), self.features(), used)
+    }
+
+    // Its label, where it is on the chain and its bytes are all allowed.
+    #[tactic(auto, unfolding(crate::specs::Record::record_allowed))]
+    pub fn judge(self, used: usize) -> Result<Label, Refusal>
+        ensures { result ≡ record_answer used self.entry.file.now self.entry.number }
+    {
+        if self.file[self.start() + layout::ZERO] != 0 {
+            return Err(Refusal::Record);
+        }
+        let item = self.read_item(used).ok_or(Refusal::Record)?;
+        Ok(item.label)
+    }
+
+    // Its label, once it was judged.
+    pub fn label(self) -> Label
+        ensures { result ≡ label_at self.entry.file.now self.entry.number }
+    {
+        Label::of_byte(self.label_byte())
+    }
+
+    // Its item, once it was judged.
+    pub fn item(self) -> Item
+        ensures { result ≡ item_at self.entry.file.now self.entry.number }
+    {
+        Item::of(self.label_byte(), self.features())
+    }
 }

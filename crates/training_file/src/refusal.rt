@@ -1,65 +1,68 @@
-// The refusals of documents 01 and 02: a refusal is its number and, for 3 and 16, the record whose next field is at fault. They all stand
-// in this one list, and nothing else makes one. The value of a constant can't be a call, so those of a number alone are spelled out.
+// The refusals of documents 01 and 02. They all stand in this one list, in the order of their numbers.
 
 ghost use Rattle.std.specs.Prelude.{◌≡◌};
-ghost use Rattle.training_file.specs.Refusal.{refusal_at};
+ghost use Rattle.training_file.specs.Refusal.{number_of, record_of};
 
-// It is what the calls for C answer, by value.
-#[repr(C)]
-#[derive(Clone, Copy)]
-pub struct Refusal {
-    pub number: u8,
-    // The record at fault; 0 where the refusal carries none, since records are numbered from 1.
-    pub at: u16,
+#[derive(Clone, Copy, Debug, PartialEq, Eq)]
+pub enum Refusal {
+    // What whoever wrote the file can cause.
+    FileLength,
+    Header,
+    // A next number over m, with the record that has it.
+    NextOver(u16),
+    Record,
+    Labels,
+    // What the caller can cause: a lent list, multipliers or a word of the wrong length.
+    ListLength,
+    Multiplier,
+    Balance,
+    WordFeature,
+    // An output shorter than the file to be written.
+    Output,
+    // What whoever wrote the text can cause. A text that is not of the form which is imported.
+    Text,
+    // A text of more than 256 lines.
+    Lines,
+    // What the caller can cause who pools two files. Files that differ in the features in use or in the kernel.
+    Unlike,
+    // A pool of more than 256 items.
+    Pool,
+    // Whoever wrote the file, again. A next number that leads to a record already met, with the record that has it.
+    NextMet(u16),
 }
 
 impl Refusal {
-    // The refusal of a number and a record.
-    pub fn at_record(number: u8, at: u16) -> Refusal
-        ensures { result ≡ refusal_at number at }
+    // The number by which the documents, the printed listing and the calls for C name it.
+    pub fn number(self) -> u8
+        ensures { result ≡ number_of self }
     {
-        Refusal { number, at }
+        match self {
+            Refusal::FileLength => 1,
+            Refusal::Header => 2,
+            Refusal::NextOver(_) => 3,
+            Refusal::Record => 4,
+            Refusal::Labels => 5,
+            Refusal::ListLength => 6,
+            Refusal::Multiplier => 7,
+            Refusal::Balance => 8,
+            Refusal::WordFeature => 9,
+            Refusal::Output => 10,
+            Refusal::Text => 11,
+            Refusal::Lines => 12,
+            Refusal::Unlike => 14,
+            Refusal::Pool => 15,
+            Refusal::NextMet(_) => 16,
+        }
     }
 
-    // No refusal has the number 0: it stands where an answer is none.
-    pub const NONE: Refusal = Refusal { number: 0, at: 0 };
-
-    // What whoever wrote the file can cause.
-    pub const FILE_LENGTH: Refusal = Refusal { number: 1, at: 0 };
-
-    pub const HEADER: Refusal = Refusal { number: 2, at: 0 };
-
-    // The number of a next number over m; the refusal is `at_record`'s.
-    pub const NEXT_OVER: u8 = 3;
-
-    pub const RECORD: Refusal = Refusal { number: 4, at: 0 };
-
-    pub const LABELS: Refusal = Refusal { number: 5, at: 0 };
-
-    // What the caller can cause. 6 is of a lent list, multipliers or a word of the wrong length.
-    pub const LIST_LENGTH: Refusal = Refusal { number: 6, at: 0 };
-
-    pub const MULTIPLIER: Refusal = Refusal { number: 7, at: 0 };
-
-    pub const BALANCE: Refusal = Refusal { number: 8, at: 0 };
-
-    pub const WORD_FEATURE: Refusal = Refusal { number: 9, at: 0 };
-
-    // An output shorter than the file to be written.
-    pub const OUTPUT: Refusal = Refusal { number: 10, at: 0 };
-
-    // What whoever wrote the text can cause. A text that is not of the form which is imported.
-    pub const TEXT: Refusal = Refusal { number: 11, at: 0 };
-
-    // A text of more than 256 lines.
-    pub const LINES: Refusal = Refusal { number: 12, at: 0 };
-
-    // What the caller can cause who pools two files. Files that differ in the features in use or in the kernel.
-    pub const UNLIKE: Refusal = Refusal { number: 14, at: 0 };
-
-    // A pool of more than 256 items.
-    pub const POOL: Refusal = Refusal { number: 15, at: 0 };
-
-    // Whoever wrote the file, again. The number of a next field that leads to a record already met; the refusal is `at_record`'s.
-    pub const NEXT_MET: u8 = 16;
+    // The record at fault; 0 where the refusal carries none, since records are numbered from 1. It is no option: C and the test programs show
+    // the 0, and the listing alone leaves it out.
+    pub fn record(self) -> u16
+        ensures { result ≡ record_of self }
+    {
+        match self {
+            Refusal::NextOver(record) | Refusal::NextMet(record) => record,
+            _ => 0,
+        }
+    }
 }

@@ -2,18 +2,13 @@
 // The files are of all kinds, and the listings are those of the second implementation (tests/reference, program `stored`).
 #![tactic(auto)]
 
-ghost use Rattle.std.specs.Prelude.{◌<◌};
-
 use std::io;
 use std::io::Read;
 
 // More files than there are.
 const MOST: u64 = 1_000;
 
-// No length of two bytes: the input has ended.
-const END: usize = 65_536;
-
-// The places of the buffer, more than the longest file has.
+// The places of the buffer, more than a length of two bytes can say. Both buffers are of a fixed length, as the library's: there is no heap.
 const PLACES: usize = 65_536;
 
 fn show(rt: &impl Print, number: u64, file: &[u8]) -> io::Result<()> {
@@ -23,54 +18,23 @@ fn show(rt: &impl Print, number: u64, file: &[u8]) -> io::Result<()> {
     rt.write_all(&out[..count])
 }
 
-// Whether the input had enough bytes for all places.
-fn fill(input: &mut impl Read, places: &mut [u8]) -> bool {
-    input.read_exact(places).is_ok()
-}
-
-fn wide(byte: u8) -> usize
-    ensures { result < 256 }
-{
-    byte as usize
-}
-
-// The next file's length.
-fn next_length(input: &mut impl Read) -> usize
-    ensures { result < 65537 }
-{
+// The next file, read into the buffer; none where the input has not so many bytes.
+fn next_file<'a>(input: &mut impl Read, buffer: &'a mut [u8; PLACES]) -> Option<&'a [u8]> {
     let mut head = [0u8; 2];
-    if !fill(input, &mut head) {
-        return END;
-    }
-    wide(head[0]) + 256 * wide(head[1])
-}
-
-// Whether there was another file.
-fn show_next(
-    rt: &impl Print,
-    input: &mut impl Read,
-    number: u64,
-    buffer: &mut [u8],
-) -> io::Result<bool> {
-    let length = next_length(input);
-    if length == END || buffer.len() < length {
-        return Ok(false);
-    }
-    let file = &mut buffer[0..length];
-    if !fill(input, file) {
-        return Ok(false);
-    }
-    show(rt, number, file)?;
-    Ok(true)
+    input.read_exact(&mut head).ok()?;
+    let file = &mut buffer[..usize::from(u16::from_le_bytes(head))];
+    input.read_exact(file).ok()?;
+    Some(file)
 }
 
 fn main(rt: HostRuntime) -> io::Result<()> {
     let mut input = rt.stdin();
     let mut buffer = [0u8; PLACES];
     for number in 1..MOST {
-        if !show_next(&rt, &mut input, number, &mut buffer)? {
+        let Some(file) = next_file(&mut input, &mut buffer) else {
             break;
-        }
+        };
+        show(&rt, number, file)?;
     }
     Ok(())
 }

@@ -3,3 +3,4 @@ pub mod Step
 pub mod Move
 pub mod Pair
 pub mod Division
+pub mod State

@@ -1,17 +1,37 @@
 // By how much a pair of items moves (document 01, "The step"): how far the two multipliers can go, and of that the amount with the
 // lowest objective, by one division.
 
-ghost use Rattle.std.specs.Prelude.{◌≡◌, ◌*◌, ◌≤◌, pos, nat_abs, ◌≤ℤ◌};
+ghost use Rattle.std.specs.Prelude.{◌≡◌, ◌*◌, ◌≤◌, ◌<◌, pos, nat_abs, ◌≤ℤ◌, length};
 ghost use Rattle.dual_problem.specs.Size.{curvature_most, gradient_most};
-ghost use Rattle.dual_problem.specs.Problem.{ceiling_of};
+ghost use Rattle.dual_problem.specs.Given.{count_in};
 ghost use Rattle.working_pair.specs.Step.{rise};
-ghost use Rattle.working_pair.specs.Division.{PairGiven, amount_between, divided, room_between};
+ghost use Rattle.working_pair.specs.Division.{PairGiven, Within, amount_between, divided, holding_at, room_between};
 
 use super::curvature::curvature;
 use dual_problem::label::ceiling;
+use dual_problem::problem::FileProblem;
 use training_file::item::{Item, Label};
 use training_file::parameters::Parameters;
-use training_file::range::lesser;
+
+// An item with its multiplier. Nothing compares or prints one.
+#[derive(Clone, Copy)]
+pub struct Holding {
+    pub item: Item,
+    pub multiplier: u32,
+}
+
+impl Holding {
+    // Those at a place.
+    pub fn at(problem: &FileProblem, multipliers: &[u32], place: usize) -> Holding
+        requires { (place < count_in problem.now) × (place < length multipliers.now) }
+        ensures { result ≡ holding_at problem.now multipliers.now place }
+    {
+        Holding {
+            item: problem.item(place),
+            multiplier: multipliers[place],
+        }
+    }
+}
 
 // How far a multiplier times y can rise. It can fall as far as it can rise under the opposite label.
 fn can_rise(label: Label, multiplier: u32, ceiling: u32) -> u32
@@ -25,23 +45,21 @@ fn can_rise(label: Label, multiplier: u32, ceiling: u32) -> u32
 }
 
 // r, the room of a pair: as far as the first item's multiplier times y can fall while the second one's rises.
-fn room(
-    parameters: Parameters,
-    x_label: Label,
-    x_multiplier: u32,
-    z_label: Label,
-    z_multiplier: u32,
-) -> u32
-    requires { (x_multiplier ≤ ceiling_of parameters x_label) × (z_multiplier ≤ ceiling_of parameters z_label) }
-    ensures { result ≡ room_between parameters x_label x_multiplier z_label z_multiplier }
+fn room(parameters: Parameters, x: Holding, z: Holding) -> u32
+    requires { Within parameters x × Within parameters z }
+    ensures { result ≡ room_between parameters x z }
 {
     let falls = can_rise(
-        x_label.opposite(),
-        x_multiplier,
-        ceiling(parameters, x_label),
+        x.item.label.opposite(),
+        x.multiplier,
+        ceiling(parameters, x.item.label),
     );
-    let rises = can_rise(z_label, z_multiplier, ceiling(parameters, z_label));
-    lesser(falls as u64, rises as u64) as u32
+    let rises = can_rise(
+        z.item.label,
+        z.multiplier,
+        ceiling(parameters, z.item.label),
+    );
+    falls.min(rises)
 }
 
 // The whole number nearest to g / η, the lower one of two, but no more than the room; the room where η is 0. Neither g nor η is
@@ -55,26 +73,17 @@ fn amount(slope: i64, curvature: i64, room: u32) -> u32
     }
     let g = slope as u64;
     let eta = curvature as u64;
-    lesser(room as u64, (2 * g + eta - 1) / (2 * eta)) as u32
+    u64::from(room).min((2 * g + eta - 1) / (2 * eta)) as u32
 }
 
-// The amount of a pair's move, from the two items, their multipliers and g.
-pub fn pair_amount(
-    parameters: Parameters,
-    x: Item,
-    x_multiplier: u32,
-    z: Item,
-    z_multiplier: u32,
-    slope: i64,
-) -> u32
-    requires { PairGiven parameters x x_multiplier z z_multiplier slope }
-    ensures { result ≡ amount_between parameters x x_multiplier z z_multiplier slope }
+// The amount of a pair's move, from the two items with their multipliers and g.
+pub fn pair_amount(parameters: Parameters, x: Holding, z: Holding, slope: i64) -> u32
+    requires { PairGiven parameters x z slope }
+    ensures { result ≡ amount_between parameters x z slope }
 {
-    let x_label = x.label;
-    let z_label = z.label;
     amount(
         slope,
-        curvature(parameters, x, z),
-        room(parameters, x_label, x_multiplier, z_label, z_multiplier),
+        curvature(parameters, x.item, z.item),
+        room(parameters, x, z),
     )
 }

@@ -17,13 +17,11 @@ pub fn curvature_with(parameters: Parameters, kernel_xx: i64, xs: &[i8], zs: &[i
     kernel_xx + kernel_of_features(parameters, zs, zs) - 2 * kernel_of_features(parameters, xs, zs)
 }
 
-// η of two items.
+// η of two items of which no kernel value is at hand: K of the first, and the function above.
 pub fn curvature(parameters: Parameters, x: Item, z: Item) -> i64
     requires { parameters.used ≤ feature_count }
     ensures { (result ≡ curvature_between parameters x.features z.features) × (nat_abs result ≤ curvature_most) }
 {
-    let xs = x.features;
-    let zs = z.features;
-    let kernel_xx = kernel_of_features(parameters, &xs, &xs);
-    curvature_with(parameters, kernel_xx, &xs, &zs)
+    let kernel_xx = kernel_of_features(parameters, &x.features, &x.features);
+    curvature_with(parameters, kernel_xx, &x.features, &z.features)
 }

@@ -5,3 +5,5 @@
 pub mod amount;
 mod curvature;
 pub mod pair;
+mod row;
+mod standing;

@@ -1,15 +1,16 @@
 -- An item in memory, as a caller of the writer has it: a row of seventeen signed bytes, the sixteen features and then the label's number, 1 or
 -- 2 as a record has it. Assumes nothing.
-use Rattle.std.specs.Prelude.{Bool, List, [], ◌∷◌, ◌++◌, map, ℕ, ℤ, pos, length, get_or}
+use Rattle.std.specs.Prelude.{Bool, List, [], ◌∷◌, ◌++◌, map, ℕ, ℤ, pos, length, get_or, Result}
 use Rattle.integers.specs.Tabulate.{tabulate}
 use Rattle.training_file.specs.declared.item.Label.TheVariants.{LookedUp}
 use Rattle.training_file.specs.declared.item.Item.{Item}
 use Rattle.training_file.specs.declared.parameters.Parameters.{Parameters}
-use Rattle.training_file.specs.declared.count.Count.{Count}
+use Rattle.training_file.specs.declared.refusal.Refusal.{Refusal}
+use Rattle.training_file.specs.declared.refusal.Refusal.TheVariants as refusal
 use Rattle.training_file.specs.Layout.{byte_of_signed, feature_count}
 use Rattle.training_file.specs.Item.{byte_of_label, item_allowed, item_of, labelled}
 use Rattle.training_file.specs.Record.{every}
-use Rattle.training_file.specs.Answers.{count_if}
+use Rattle.training_file.specs.Answers.{ok_if}
 use Rattle.written_file.specs.Stored.{Stores}
 
 -- its first sixteen numbers
@@ -42,5 +43,5 @@ abbrev pub StoresRows : (file : List ℕ) → Parameters → List (List ℤ) →
 StoresRows file p rows = Stores file p (length rows) (λ k. row_label (get_or rows k [])) (λ k. row_features (get_or rows k []))
 
 -- how many rows are looked up, or refusal 4
-abbrev pub rows_answer : ℕ → List (List ℤ) → Count
-rows_answer d rows = count_if (every (row_allowed d) rows) 4 (labelled LookedUp (row_items rows))
+abbrev pub rows_answer : ℕ → List (List ℤ) → Result ℕ Refusal
+rows_answer d rows = ok_if (every (row_allowed d) rows) (labelled LookedUp (row_items rows)) refusal.Record

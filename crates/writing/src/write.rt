@@ -6,39 +6,33 @@ ghost use Rattle.writing.specs.Writing.{writing};
 
 use super::row::Row;
 use super::rows::{judge_rows, put_rows};
-use training_file::count::Count;
+use buffer::put::Cursor;
 use training_file::parameters::Parameters;
 use training_file::refusal::Refusal;
 use written_file::header::put_header;
 use written_file::output::file_length;
 
 // The length of the file, which stands at the output's start; the bytes past it are left as they were. On a refusal all of them are.
-pub fn write(parameters: Parameters, items: &[Row], output: &mut [u8]) -> Count
+pub fn write(parameters: Parameters, items: &[Row], output: &mut [u8]) -> Result<usize, Refusal>
     ensures answer { result ≡ written_answer (writing parameters items.now (length output.old)) }
-    ensures output { output.new
-        ≡ output_after (writing parameters items.now (length output.old)) output.old }
+    ensures output { output.new ≡ output_after (writing parameters items.now (length output.old)) output.old }
 {
     if !parameters.allowed() {
-        return Count::Refused(Refusal::HEADER);
+        return Err(Refusal::Header);
     }
     if Parameters::MAX_RECORDS < items.len() {
-        return Count::Refused(Refusal::FILE_LENGTH);
+        return Err(Refusal::FileLength);
     }
-    let judged = judge_rows(items, parameters.used);
-    let Count::Counted(looked_up) = judged else {
-        return judged;
+    let looked_up = judge_rows(items, parameters.used)?;
+    if looked_up == 0 || looked_up == items.len() {
+        return Err(Refusal::Labels);
+    }
+    let length = file_length(items.len(), output.len())?;
+    let mut out = Cursor {
+        bytes: output,
+        at: 0,
     };
-    if looked_up == 0 {
-        return Count::Refused(Refusal::LABELS);
-    }
-    if looked_up == items.len() {
-        return Count::Refused(Refusal::LABELS);
-    }
-    let length = file_length(items.len(), output.len());
-    let Count::Counted(_) = length else {
-        return length;
-    };
-    let records_at = put_header(output, 0, items.len(), parameters);
-    put_rows(output, records_at, items);
-    length
+    put_header(&mut out, items.len(), parameters);
+    put_rows(&mut out, items);
+    Ok(length)
 }

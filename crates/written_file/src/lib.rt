@@ -3,7 +3,6 @@
 // read back.
 #![tactic(auto)]
 
-mod fields;
 pub mod header;
 pub mod output;
 pub mod record;

@@ -20,6 +20,7 @@ const WRITE: &str = "crates/lookahead_c/src/write.rt";
 const IMPORT: &str = "crates/lookahead_c/src/import.rt";
 const POOL: &str = "crates/lookahead_c/src/pool.rt";
 const NUMBERING: &str = "crates/lookahead_c/src/numbering.rt";
+const REFUSAL_NUMBERS: &str = "crates/lookahead_c/src/refusal.rt";
 const REFUSALS: &str = "crates/training_file/src/refusal.rt";
 const PARAMETERS: &str = "crates/training_file/src/parameters.rt";
 const ITEM: &str = "crates/training_file/src/item.rt";
@@ -53,7 +54,7 @@ const NUMBERS: [(&str, &str); 9] = [
 
 /// The types of Rattle that are a struct for C and for Rust.
 const STRUCTS: [(&str, &str, &str); 4] = [
-    ("Refusal", "lookahead_answer", "LookaheadAnswer"),
+    ("RefusalNumbers", "lookahead_answer", "LookaheadAnswer"),
     (
         "ParameterNumbers",
         "lookahead_parameters",
@@ -74,15 +75,13 @@ const FIELDS: [(&str, &str); 2] = [("at", "record"), ("refusal", "answer")];
 
 /// The constants and variants with other names in both files. All names are in
 /// capitals there, after `LOOKAHEAD_`, and those of refusals after `REFUSED_` too.
-const CONSTANTS: [(&str, &str); 8] = [
+const CONSTANTS: [(&str, &str); 6] = [
     ("MAX_RECORDS", "MOST_ITEMS"),
     ("FEATURE_COUNT", "FEATURES"),
     ("FILE_LENGTH", "LENGTH"),
     ("LIST_LENGTH", "COUNT"),
     ("MULTIPLIER", "CEILING"),
     ("WORD_FEATURE", "FEATURE"),
-    ("LookedUp", "LOOKED_UP"),
-    ("PassedOver", "PASSED_OVER"),
 ];
 
 /// The texts of the files, by their paths.
@@ -296,9 +295,24 @@ fn item(texts: &Texts) -> Result<Declared, String> {
     })
 }
 
+/// A name in capitals, with `_` between the words of a variant.
+fn capitals(name: &str) -> String {
+    let mut capitals = String::new();
+    let mut after_small = false;
+    for sign in name.chars() {
+        if after_small && sign.is_uppercase() {
+            capitals.push('_');
+        }
+        after_small = sign.is_lowercase();
+        capitals.extend(sign.to_uppercase());
+    }
+    capitals
+}
+
 /// A constant of the source, or a variant that it numbers.
 fn constant(before: &str, name: &str, of_type: &str, number: &str) -> Declared {
-    let name = renamed(name, &CONSTANTS).to_uppercase();
+    let name = capitals(name);
+    let name = renamed(&name, &CONSTANTS);
     Declared {
         c: format!("#define LOOKAHEAD_{before}{name} {number}"),
         rust: format!("pub const LOOKAHEAD_{before}{name}: {of_type} = {number};"),
@@ -317,6 +331,21 @@ fn constants_of(source: &str) -> Vec<[String; 3]> {
             [words[0], words[2], number.unwrap_or(&"?")].map(String::from)
         })
         .collect()
+}
+
+/// The variants that a source numbers in a `match`, each with its number.
+fn numbered(source: &str) -> Vec<[String; 2]> {
+    let source = plain(source);
+    let arms: Vec<&str> = source.split(" = > ").collect();
+    let numbered = arms.windows(2).filter_map(|arm| {
+        let pattern = arm[0].rsplit([',', '{', '}']).next()?;
+        let (_, variant) = pattern.rsplit_once(" : : ")?;
+        let number = arm[1].split(' ').next()?;
+        number.parse::<u64>().ok()?;
+        let variant = variant.split(' ').next()?;
+        Some([variant, number].map(String::from))
+    });
+    numbered.collect()
 }
 
 /// The number of a public constant of a file.
@@ -342,10 +371,8 @@ fn most_file(texts: &Texts) -> Result<Declared, String> {
 /// labels, the endings and the classes. A label's number is that of its class.
 fn constants(texts: &Texts) -> Vec<Declared> {
     let mut constants = Vec::new();
-    for [name, _, number] in constants_of(&texts[REFUSALS]) {
-        if name != "NONE" {
-            constants.push(constant("REFUSED_", &name, "u8", &number));
-        }
+    for [name, number] in numbered(&texts[REFUSALS]) {
+        constants.push(constant("REFUSED_", &name, "u8", &number));
     }
     for [name, of_type, number] in [PARAMETERS, ITEM]
         .into_iter()
@@ -355,12 +382,8 @@ fn constants(texts: &Texts) -> Vec<Declared> {
             constants.push(constant("", &name, &of_type, &number));
         }
     }
-    let numbering = plain(&texts[NUMBERING]);
-    let arms: Vec<&str> = numbering.split(" = > ").collect();
-    for arm in arms.windows(2) {
-        let variant = arm[0].rsplit(' ').next().expect("a word");
-        let number = arm[1].split(' ').next().expect("a word");
-        constants.push(constant("", variant, "u8", number));
+    for [name, number] in numbered(&texts[NUMBERING]) {
+        constants.push(constant("", &name, "u8", &number));
     }
     constants
 }
@@ -374,8 +397,6 @@ fn wanted(texts: &Texts) -> Result<BTreeSet<Declared>, String> {
         let error = |error| format!("{path}: {error}");
         if path.starts_with(EXPORTS) {
             wanted.extend(functions(&source).map_err(error)?);
-        }
-        if path.starts_with(EXPORTS) || path == REFUSALS {
             wanted.extend(structures(&source).map_err(error)?);
         }
     }
@@ -469,15 +490,15 @@ const WRONG: [(&str, &str, &str); 69] = [
     (DECLARATIONS, "parameters: LookaheadParameters,\n        items", "parameters: *mut LookaheadParameters,\n        items"),
     (DECLARATIONS, "parameters: LookaheadParameters,\n        text", "parameters: *mut LookaheadParameters,\n        text"),
     // Another answer.
-    (READ, "-> ReadAnswer", "-> Refusal"),
+    (READ, "-> ReadAnswer", "-> RefusalNumbers"),
     (HEADER, "lookahead_reading lookahead_read(", "lookahead_answer lookahead_read("),
     (DECLARATIONS, "-> LookaheadReading", "-> LookaheadAnswer"),
-    (CERTIFY, "-> Refusal", "-> u8"),
+    (CERTIFY, "-> RefusalNumbers", "-> u8"),
     // The fields of a struct exchanged, or of another type or name.
     (HEADER, "uint8_t number;\n    uint16_t record;", "uint16_t record;\n    uint8_t number;"),
     (DECLARATIONS, "pub number: u8,\n    pub record: u16,", "pub record: u16,\n    pub number: u8,"),
-    (REFUSALS, "pub number: u8", "pub number: u16"),
-    (REFUSALS, "#[repr(C)]", ""),
+    (REFUSAL_NUMBERS, "pub number: u8", "pub number: u16"),
+    (REFUSAL_NUMBERS, "#[repr(C)]", ""),
     (DECLARATIONS, "#[repr(C)]", ""),
     (PARAMETER_NUMBERS, "pub grid: u32", "pub units: u32"),
     (PARAMETER_NUMBERS, "pub tolerance: u64", "pub tolerance: u32"),
@@ -491,7 +512,7 @@ const WRONG: [(&str, &str, &str); 69] = [
     (HEADER, "int8_t features[LOOKAHEAD_FEATURES];\n    int8_t label;", "int8_t label;\n    int8_t features[LOOKAHEAD_FEATURES];"),
     (DECLARATIONS, "pub label: i8", "pub label: u8"),
     // A function that is declared nowhere, in one file alone, or not exported.
-    (CERTIFY, "#[unsafe(no_mangle)]", "#[unsafe(no_mangle)] pub extern \"C\" fn other(file: &[u8]) -> Refusal { }\n#[unsafe(no_mangle)]"),
+    (CERTIFY, "#[unsafe(no_mangle)]", "#[unsafe(no_mangle)] pub extern \"C\" fn other(file: &[u8]) -> RefusalNumbers { }\n#[unsafe(no_mangle)]"),
     (HEADER, "lookahead_reading lookahead_read(", "lookahead_reading lookahead_other("),
     (DECLARATIONS, "pub fn lookahead_read(", "pub fn lookahead_other("),
     (HEADER, "#ifdef __cplusplus\n}", "void other(void);\n#ifdef __cplusplus\n}"),
@@ -503,14 +524,14 @@ const WRONG: [(&str, &str, &str); 69] = [
     // Constants.
     (HEADER, "LOOKAHEAD_STUCK 2", "LOOKAHEAD_STUCK 3"),
     (HEADER, "LOOKAHEAD_STUCK 2", "LOOKAHEAD_STUCK 2\n#define LOOKAHEAD_OTHER 2"),
-    (REFUSALS, "NEXT_MET: u8 = 16", "NEXT_MET: u8 = 17"),
+    (REFUSALS, "NextMet(_) => 16", "NextMet(_) => 17"),
     (HEADER, "LOOKAHEAD_REFUSED_OUTPUT 10", "LOOKAHEAD_REFUSED_OUTPUT 17"),
     (HEADER, "LOOKAHEAD_REFUSED_TEXT 11", "LOOKAHEAD_REFUSED_TEXT 12"),
-    (REFUSALS, "LINES: Refusal = Refusal { number: 12", "LINES: Refusal = Refusal { number: 13"),
+    (REFUSALS, "Lines => 12", "Lines => 13"),
     (HEADER, "LOOKAHEAD_REFUSED_UNLIKE 14", "LOOKAHEAD_REFUSED_UNLIKE 15"),
     (DECLARATIONS, "LOOKAHEAD_REFUSED_POOL: u8 = 15", "LOOKAHEAD_REFUSED_POOL: u8 = 14"),
-    (REFUSALS, "UNLIKE: Refusal = Refusal { number: 14", "UNLIKE: Refusal = Refusal { number: 13"),
-    (REFUSALS, "POOL: Refusal = Refusal { number: 15", "POOL: Refusal = Refusal { number: 1"),
+    (REFUSALS, "Unlike => 14", "Unlike => 13"),
+    (REFUSALS, "Pool => 15", "Pool => 1"),
     (ITEM, "PASSED_OVER: u8 = 2", "PASSED_OVER: u8 = 3"),
     (DECLARATIONS, "LOOKAHEAD_FEATURES: usize = 16", "LOOKAHEAD_FEATURES: usize = 17"),
     (LAYOUT, "RECORD_LENGTH: usize = 20", "RECORD_LENGTH: usize = 24"),

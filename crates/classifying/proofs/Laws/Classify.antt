@@ -4,6 +4,7 @@ use mathlib.Core.Path.{◌≡◌, refl, sym, ◌∙◌, ap, subst}
 use mathlib.Core.Logic.{◌↔◌}
 use mathlib.Core.Bool.{Bool, true, false, cond, ◌&&◌, and-true}
 use mathlib.Core.List.{List, [], ◌∷◌}
+use Rattle.std.specs.Prelude.{Result, Ok, Err}
 use Prim.Native.Nat.{ℕ, zero, suc, ◌+◌, ◌-◌, ◌*◌, ◌≤◌, ◌<◌}
 use native.Mathlib.Omega.{arith}
 use lib.Dec.{eqb}
@@ -18,7 +19,8 @@ use Rattle.integers.proofs.Laws.Bounds.{+ℤ_bound, -ℤ-bound, *ℤ_bound}
 use Rattle.integers.proofs.Laws.Places.{all_first, all_true}
 use Rattle.training_file.specs.declared.parameters.Parameters.{Parameters}
 use Rattle.training_file.specs.declared.item.Item.{Item}
-use Rattle.training_file.specs.Refusal.{refusal}
+use Rattle.training_file.specs.declared.refusal.Refusal.{Refusal}
+use Rattle.training_file.specs.declared.refusal.Refusal.TheVariants as refusal
 use Rattle.training_file.specs.Layout.{feature_count}
 use Rattle.training_file.specs.Item.{feature_allowed, features_allowed, item_allowed, label_allowed, zero_past, item_in}
 use Rattle.reading.proofs.Laws.Calls.{file_either}
@@ -30,14 +32,10 @@ use Rattle.dual_problem.specs.FileProblem.{weighed_sum}
 use Rattle.dual_problem.specs.Size.{gradient_most, score_most, weighed_most}
 use Rattle.dual_problem.proofs.Laws.FileProblem.Read.{labels_present}
 use Rattle.thresholds.specs.declared.extremes.Thresholds.{Thresholds}
-use Rattle.certifying.specs.declared.multipliers.Judgement.{Judgement}
-use Rattle.certifying.specs.declared.multipliers.Judgement.TheVariants as judged
 use Rattle.certifying.specs.Multipliers.{balance, judgement, within_ceilings}
 use Rattle.certifying.proofs.Laws.Multipliers.{verdict}
 use Rattle.classifying.specs.declared.classify.Class.{Class}
 use Rattle.classifying.specs.declared.classify.Class.TheVariants.{LookedUp, PassedOver, Undecided}
-use Rattle.classifying.specs.declared.classify.Classified.{Classified}
-use Rattle.classifying.specs.declared.classify.Classified.TheVariants.{Refused, Is}
 use Rattle.classifying.specs.Classify.{ClassMeans, UndecidedUnlessRefused, SameFeatures, class_of, classify_items, classify_judged, classifying, score, score_with, word_allowed, word_kernel}
 
 -- ---- the kernel
@@ -111,39 +109,29 @@ class_exactly class value = (λ e. subst (λ k. ClassMeans k value) e (class_mea
 
 -- ---- the answer, by the stage that gives it
 module _ (p : Parameters) (items : List Item) (a : List ℕ) (word : List ℤ) where
-  abbrev pub class : Classified
-  class = Is (class_of (score p items (at a) word))
+  abbrev pub class : Result Class Refusal
+  class = Ok (class_of (score p items (at a) word))
 
   -- the numbers 6 to 9 are met in this order
   pub refusals_in_order : classify_items p items a word
       ≡ cond (eqb (length a) (length items) && eqb (length word) p.used)
       (cond (within_ceilings (length items) (problem p items) (at a))
       (cond (is_zero (balance (problem p items) (at a)))
-      (cond (word_allowed word) class (Refused (refusal 9)))
-      (Refused (refusal 8)))
-      (Refused (refusal 7)))
-      (Refused (refusal 6))
+      (cond (word_allowed word) class (Err refusal.WordFeature))
+      (Err refusal.Balance))
+      (Err refusal.Multiplier))
+      (Err refusal.ListLength)
   refusals_in_order =
       by (eqb (length a) (length items)) (eqb (length word) p.used) (within_ceilings (length items) (problem p items) (at a)) (is_zero (balance (problem p items) (at a)))
     where
-      by : (s d t u : Bool) → cond d (classify_judged p items a word (verdict s t u)) (Refused (refusal 6))
-          ≡ cond (s && d) (cond t (cond u (cond (word_allowed word) class (Refused (refusal 9))) (Refused (refusal 8))) (Refused (refusal 7))) (Refused (refusal 6))
+      by : (s d t u : Bool) → cond d (classify_judged p items a word (verdict s t u)) (Err refusal.ListLength)
+          ≡ cond (s && d) (cond t (cond u (cond (word_allowed word) class (Err refusal.WordFeature)) (Err refusal.Balance)) (Err refusal.Multiplier)) (Err refusal.ListLength)
       by true true true true = refl
       by true true true false = refl
       by true true false u = refl
       by true false t u = refl
       by false true t u = refl
       by false false t u = refl
-
-  -- what the word's length and the judging answer decides
-  pub items_are : {d : Bool} {j : Judgement} → eqb (length word) p.used ≡ d → judgement (problem p items) a ≡ j
-      → classify_items p items a word ≡ cond d (classify_judged p items a word j) (Refused (refusal 6))
-  items_are e f = λ i. cond (e i) (classify_judged p items a word (f i)) (Refused (refusal 6))
-
-  -- feasible multipliers and d features: the range of the features decides
-  pub feasible_are : {t : Bool} → eqb (length word) p.used ≡ true → judgement (problem p items) a ≡ judged.Feasible → word_allowed word ≡ t
-      → classify_items p items a word ≡ cond t class (Refused (refusal 9))
-  feasible_are e f g = items_are e f ∙ (λ i. cond (g i) class (Refused (refusal 9)))
 
 -- ---- multipliers that are all 0, as a training of no step leaves them
 zeros_score : (p : Parameters) (items : List Item) (a : ℕ → ℕ) → ((i : ℕ) → i < length items → a i ≡ 0) → LabelsPresent (problem p items) → (word : List ℤ)
@@ -160,7 +148,7 @@ zeros_undecided file a word zeros =
     file_either _ _ file (λ r answer. UndecidedUnlessRefused answer) (λ why e. tt)
     (λ p order items e. chose_either UndecidedUnlessRefused (eqb (length word) p.used) (by p items (labels_present file p order items e) (judgement (problem p items) a)) tt)
   where
-    by : (p : Parameters) (items : List Item) → LabelsPresent (problem p items) → (j : Judgement) → UndecidedUnlessRefused (classify_judged p items a word j)
-    by p items present (judged.Refused why) = tt
-    by p items present judged.Feasible =
+    by : (p : Parameters) (items : List Item) → LabelsPresent (problem p items) → (j : Result Unit Refusal) → UndecidedUnlessRefused (classify_judged p items a word j)
+    by p items present (Err why) = tt
+    by p items present (Ok feasible) =
         chose_either UndecidedUnlessRefused (word_allowed word) (ap class_of (zeros_score p items (at a) (λ i l. zeros i) present word)) tt

@@ -27,6 +27,8 @@ use Rattle.dual_problem.specs.Kernel.{largest_feature_sum, largest_kernel}
 use Rattle.dual_problem.proofs.Laws.Kernel.{kernel_bound}
 use Rattle.dual_problem.specs.Problem.{Problem, sign, y, gap, gradient, not_below_zero, up, low, b_up, b_low, at}
 use Rattle.dual_problem.specs.FileProblem.{Listed, MultipliersListed, problem_of}
+use Rattle.dual_problem.specs.declared.problem.FileProblem.{FileProblem}
+use Rattle.dual_problem.specs.Given.{MultipliersFit, count_in}
 
 sign_size : (l : Label) → nat_abs (sign l) ≤ 1
 sign_size LookedUp = le_refl 1
@@ -95,3 +97,7 @@ module _ (file order : List ℕ) (n : ℕ) (p : Parameters) where
       by_sign : (z : ℤ) → not_below_zero z ≤ nat_abs z
       by_sign (pos k) = le_refl k
       by_sign (negsuc k) = omega arith
+
+-- what is asked of multipliers where a problem is at hand is all that is asked of them
+pub fit_listed : (f : FileProblem) (a : List ℕ) → MultipliersFit f a → MultipliersListed f.file.now f.order.now (count_in f) f.parameters a
+fit_listed f a h = record { table = f.listed; used = h.used; grid = h.grid; long = h.long; small = h.small }

@@ -80,18 +80,6 @@ module _ {F : ℕ} (raised-fits : F + raised_by ≤ F * F) where
         plus_one = +ℤ_bound (linear d xs zs) (pos 1) (feature_sum_bound Square) (omega arith)
     kernel_bound Overlap = omega (arith, feature_sum_bound Overlap)
 
--- ---- a feature, a signed number of 8 bits, at 32 bits
-module _ {z : ℤ} (fits : SFits w8 z) where
-  pub feature_size : nat_abs z ≤ signed_most
-  feature_size = nat_abs-le z fits.sfits
-
-  pub feature_fits : SFits w32 (to_z w8 (of_z w8 z))
-  feature_fits = fits_width w32 (to_z-of_z fits) (omega (arith, feature_size))
-
-  -- its bits read back
-  pub feature_reads : to_z w32 (of_z w32 (to_z w8 (of_z w8 z))) ≡ z
-  feature_reads = reads_back w32 (to_z-of_z fits) (omega (arith, feature_size))
-
 -- ---- a kernel value as a signed number of 64 bits
 -- its bits read back
 pub kernel_reads : (k : ℤ) → nat_abs k ≤ kernel_most → to_z w64 (of_z w64 k) ≡ k

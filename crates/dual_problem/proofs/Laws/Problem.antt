@@ -22,7 +22,7 @@ use Rattle.dual_problem.specs.Kernel.{FeaturesInRange}
 use Rattle.dual_problem.proofs.Laws.Kernel.{kernel_gram}
 use Rattle.dual_problem.specs.Problem.{Problem, problem, sign, y, gradient, double_sum, objective, finer_objective}
 
-pub sign_square : (l : Label) → sign l *ℤ sign l ≡ pos 1
+sign_square : (l : Label) → sign l *ℤ sign l ≡ pos 1
 sign_square LookedUp = refl
 sign_square PassedOver = refl
 

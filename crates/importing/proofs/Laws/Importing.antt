@@ -4,9 +4,8 @@ use mathlib.Core.Path.{◌≡◌, refl, sym, ◌∙◌, ap}
 use mathlib.Core.Bool.{Bool, true, false}
 use mathlib.Core.List.{List, [], ◌∷◌, map}
 use mathlib.Core.Option.{Option, none, some}
-use Prim.Native.Nat.{ℕ, zero, suc, ◌≤◌, ◌<◌}
+use Prim.Native.Nat.{ℕ, suc, ◌≤◌, ◌<◌}
 use native.Mathlib.Omega.{arith}
-use native.Mathlib.Nat.{le_of_suc-le-suc}
 use lib.Dec.{leb}
 use lib.ListN.{length, get_or, length-map}
 use borrow.Author.Tests.{le-leb, leb-true}
@@ -14,7 +13,8 @@ use Rattle.integers.proofs.Laws.Truth.{&&_true}
 use Rattle.training_file.specs.declared.item.Label.TheVariants.{LookedUp}
 use Rattle.training_file.specs.declared.item.Item.{Item}
 use Rattle.training_file.specs.declared.parameters.Parameters.{Parameters}
-use Rattle.training_file.specs.Refusal.{importing_refuses, refusal}
+use Rattle.training_file.specs.declared.refusal.Refusal.TheVariants as refusal
+use Rattle.training_file.specs.Refusal.{importing_refuses}
 use Rattle.training_file.specs.Layout.{feature_count}
 use Rattle.training_file.specs.Parameters.{parameters_allowed, records_most}
 use Rattle.training_file.specs.Item.{both_labels, features_allowed, item_in}
@@ -36,6 +36,7 @@ use Rattle.libsvm_text.specs.Lines.{text_lines}
 use Rattle.libsvm_text.proofs.Laws.Lines.{lines_exactly}
 use Rattle.libsvm_text.proofs.Laws.Items.{features_judged, features-length, item_allowed_lem, item_back, item_formed}
 use Rattle.importing.specs.Importing.{import_found, import_lines, importing}
+use Rattle.importing.proofs.Laws.Passes.{line_at}
 use Rattle.importing.proofs.Laws.Call.{imports_11, imports_all, imports_lines}
 
 -- ---- "11, text not of this form"
@@ -47,10 +48,10 @@ imports_form p text room lines a form = imports_lines p text room a lines ((line
 
 -- one that is the text of no such lines is refused with 11
 pub refuses_other : (p : Parameters) (text : List ℕ) (room : ℕ) → parameters_allowed p ≡ true → ((lines : List Line) → HasForm p.used text lines → ⊥)
-    → importing p text room ≡ refused (refusal 11)
+    → importing p text room ≡ refused refusal.Text
 refuses_other p text room a other = by (text_lines p.used text) refl
   where
-    by : (found : Option (List Line)) → text_lines p.used text ≡ found → importing p text room ≡ refused (refusal 11)
+    by : (found : Option (List Line)) → text_lines p.used text ≡ found → importing p text room ≡ refused refusal.Text
     by none f = imports_11 p text room a f
     by (some lines) f = absurd (other lines ((lines_exactly p.used text lines).0 f))
 
@@ -66,40 +67,35 @@ module _ (p : Parameters) (room : ℕ) (lines : List Line) where
 
   passed : (file : List ℕ) → import_lines p room lines ≡ wrote file → Passed file
   passed file e =
-      let most = unless_wrote 12 (leb (length lines) records_most) _ file e in
-      let allowed = unless_wrote 4 (every line_allowed lines) _ file most.1 in
-      let labels = unless_wrote 5 (both_labels (line_items lines)) _ file allowed.1 in
-      let fits = unless_wrote 10 (file_fits (length (line_items lines)) room) (wrote (file_of p (line_items lines))) file labels.1 in
+      let most = unless_wrote refusal.Lines (leb (length lines) records_most) _ file e in
+      let allowed = unless_wrote refusal.Record (every line_allowed lines) _ file most.1 in
+      let labels = unless_wrote refusal.Labels (both_labels (line_items lines)) _ file allowed.1 in
+      let fits = unless_wrote refusal.Output (file_fits (length (line_items lines)) room) (wrote (file_of p (line_items lines))) file labels.1 in
       record { most = most.0; allowed = allowed.0; labels = labels.0; is = cc fits.1 }
 
   lines_refuse : Refuses importing_refuses (import_lines p room lines)
   lines_refuse =
       let tested = unless_refuses importing_refuses in
-      let after-5 = unless 10 (file_fits (length (line_items lines)) room) (wrote (file_of p (line_items lines))) in
-      let after-4 = unless 5 (both_labels (line_items lines)) after-5 in
-      let after-12 = unless 4 (every line_allowed lines) after-4 in
-      tested 12 (leb (length lines) records_most) after-12 refl (λ q. omega arith) (λ q. omega arith)
-      (tested 4 (every line_allowed lines) after-4 refl (λ q. omega arith) (λ q. omega arith)
-      (tested 5 (both_labels (line_items lines)) after-5 refl (λ q. omega arith) (λ q. omega arith)
-      (tested 10 (file_fits (length (line_items lines)) room) (wrote (file_of p (line_items lines))) refl (λ q. omega arith) (λ q. omega arith) tt)))
+      let after-5 = unless refusal.Output (file_fits (length (line_items lines)) room) (wrote (file_of p (line_items lines))) in
+      let after-4 = unless refusal.Labels (both_labels (line_items lines)) after-5 in
+      let after-12 = unless refusal.Record (every line_allowed lines) after-4 in
+      tested refusal.Lines (leb (length lines) records_most) after-12 refl (λ q. omega arith) (λ q. omega arith)
+      (tested refusal.Record (every line_allowed lines) after-4 refl (λ q. omega arith) (λ q. omega arith)
+      (tested refusal.Labels (both_labels (line_items lines)) after-5 refl (λ q. omega arith) (λ q. omega arith)
+      (tested refusal.Output (file_fits (length (line_items lines)) room) (wrote (file_of p (line_items lines))) refl (λ q. omega arith) (λ q. omega arith) tt)))
 
 found_refuse : (p : Parameters) (room : ℕ) (found : Option (List Line)) → Refuses importing_refuses (import_found p room found)
-found_refuse p room none = one_of_alone importing_refuses 11 refl (λ q. omega arith) (λ q. omega arith)
+found_refuse p room none = one_of_alone importing_refuses refusal.Text refl (λ q. omega arith) (λ q. omega arith)
 found_refuse p room (some lines) = lines_refuse p room lines
 
 -- the call's refusals are those listed for it, and carry no record
 pub importing_refuses_lem : (p : Parameters) (text : List ℕ) (room : ℕ) → Refuses importing_refuses (importing p text room)
 unfolding importing
 importing_refuses_lem p text room =
-    unless_refuses importing_refuses 2 (parameters_allowed p) (import_found p room (text_lines p.used text)) refl (λ q. omega arith) (λ q. omega arith)
+    unless_refuses importing_refuses refusal.Header (parameters_allowed p) (import_found p room (text_lines p.used text)) refl (λ q. omega arith) (λ q. omega arith)
     (found_refuse p room (text_lines p.used text))
 
 -- ---- "the result is a file as in (b)"
-
-pub line_at : (lines : List Line) (k : ℕ) → k < length lines → (past : Line) → item_in (line_items lines) k ≡ line_item (get_or lines k past)
-line_at [] k h past = absurd (omega arith)
-line_at (line ∷ lines) zero h past = refl
-line_at (line ∷ lines) (suc k) h past = line_at lines k (le_of_suc-le-suc h) past
 
 -- the lines of a text that is imported make up a file
 lines_writable : (p : Parameters) (text : List ℕ) (lines : List Line) → parameters_allowed p ≡ true → HasForm p.used text lines
@@ -142,7 +138,7 @@ pub imported : (p : Parameters) (text : List ℕ) (room : ℕ) (file : List ℕ)
 unfolding importing
 imported p text room file e = by _ _ refl refl e
   where
-    by : (a : Bool) (found : Option (List Line)) → parameters_allowed p ≡ a → text_lines p.used text ≡ found → unless 2 a (import_found p room found) ≡ wrote file
+    by : (a : Bool) (found : Option (List Line)) → parameters_allowed p ≡ a → text_lines p.used text ≡ found → unless refusal.Header a (import_found p room found) ≡ wrote file
         → Imported p text file
     by false found ea ef e = let z : ◌≡◌ {A = ℕ} 0 1 = cc in absurd (omega arith)
     by true none ea ef e = let z : ◌≡◌ {A = ℕ} 0 1 = cc in absurd (omega arith)

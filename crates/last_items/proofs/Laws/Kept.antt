@@ -1,24 +1,29 @@
 -- Laws of the code that finds the last of equal items: features compared as bytes, and by their hashes. Assumes nothing.
 use mathlib.Core.Path.{◌≡◌, refl, sym, ◌∙◌, ap, subst}
-use mathlib.Core.Bool.{Bool, true, false, ◌||◌, not, cond, or_assoc, or-false}
-use mathlib.Core.List.{List, [], ◌∷◌, ◌++◌, map, append-nil, map-append}
+use mathlib.Core.Bool.{Bool, true, false, ◌||◌, not, cond}
+use mathlib.Core.List.{List, [], ◌∷◌, ◌++◌, map, append-nil}
 use Prim.Native.Nat.{ℕ, zero, suc, ◌+◌, ◌-◌, ◌≤◌, ◌<◌, suc-le-suc}
 use native.Mathlib.Nat.{le_of_suc-le-suc, le_trans}
 use native.Mathlib.Numerals.{add-one}
-use native.Mathlib.Decide.{dec_lt}
 use native.Mathlib.Omega.{arith}
-use borrow.Author.Tests.{eqb-true, eqb-false}
+use borrow.Author.Tests.{eqb-false}
 use lib.Dec.{eqb}
+use Rattle.std.proofs.Common.{nat_eq}
+use Rattle.std.specs.List.{filter, list_any, zip}
+use Rattle.std.specs.Str.{bytes_eq}
+use Rattle.std.proofs.lemmas.Bool.Decides.{Decides-eqb, same_from_decides}
+use Rattle.std.proofs.lemmas.Grind.{get_or_default_zero}
+use Rattle.std.proofs.lemmas.Slice.Eq.{bytes_eq-Decides}
 use lib.IntN.{pos}
 use lib.ListN.{length, get_or, set, take, drop, length-drop, length-set, drop_of_length-le, get_or-map}
-use lib.Seq.{append_snoc, drop-cons, drop-drop, drop-set-lt, ext_get_or, get_or-drop, take_all, take-set-le, take-suc, take-suc-set}
+use lib.Seq.{append_snoc, drop-cons, drop-drop, drop-set-lt, ext_get_or, get_or-drop, take_all, take-set-le, take-suc-set}
 use Rattle.integers.specs.Equal.{equal}
 use Rattle.integers.specs.Member.{member}
 use Rattle.integers.proofs.Laws.Equal.{equal_is, equal_same}
 use Rattle.integers.proofs.Laws.Places.{all_holds, all_true}
 use Rattle.integers.proofs.Laws.Truth.{not_true_false, ||_neither}
 use Rattle.training_file.specs.declared.item.Item.{Item}
-use Rattle.training_file.specs.Layout.{byte_at, byte_of_signed, feature_bytes, feature_count, le2, le4, le8, signed_byte}
+use Rattle.training_file.specs.Layout.{byte_at, byte_of_signed, feature_bytes, feature_count, signed_byte}
 use Rattle.training_file.specs.Record.{Stored, features_at, item_at}
 use Rattle.training_file.proofs.Laws.Layout.{signed_byte_back}
 use Rattle.training_file.proofs.Laws.Record.{bytes_sixteen, feature_bytes_small}
@@ -26,83 +31,15 @@ use Rattle.last_items.specs.Last.{is_last, last_only, repeated, same_features, s
 use Rattle.last_items.specs.Kept.{AllStored, FewStored, Kept, hash, hash_at, hashes_at, items_at, staying_at, stays_at}
 use Rattle.last_items.proofs.Laws.Last.{repeated-append, staying_all, staying-length, staying_map, staying_parts}
 
--- ---- a search of numbers from the first on
+-- ---- a search by a chain, and that of the definition
 
--- one number is passed
-pub member_on : (r : ℕ) (rs : List ℕ) (k : ℕ) (found : Bool) → k < length rs
-    → found || member r (drop k rs) ≡ (found || eqb r (get_or rs k 0)) || member r (drop (k + 1) rs)
-member_on r rs k found h =
-    ap (λ l. found || member r l) (drop-cons rs k 0 h)
-    ∙ sym (or_assoc found (eqb r (get_or rs k 0)) (member r (drop (suc k) rs)))
-    ∙ ap (λ (j : ℕ). (found || eqb r (get_or rs k 0)) || member r (drop j rs)) (sym (add-one k))
-
-pub member_all : (r : ℕ) (rs : List ℕ) (k : ℕ) (found : Bool) → length rs ≤ k → found || member r (drop k rs) ≡ found
-member_all r rs k found h = ap (λ l. found || member r l) (drop_of_length-le rs {i = k} h) ∙ or-false found
-
--- ---- hashes written one after the other
-
-module _ (file numbers hashes : List ℕ) (k : ℕ) where
-  pub hashed_more : (h : ℕ) → k < length numbers → k < length hashes → h ≡ hash_at file (get_or numbers k 0) → take k hashes ≡ hashes_at file (take k numbers)
-      → take (k + 1) (set hashes k h) ≡ hashes_at file (take (k + 1) numbers)
-  hashed_more h inside room is so_far =
-      ap (λ (j : ℕ). take j (set hashes k h)) (add-one k)
-      ∙ take-suc-set hashes k h room
-      ∙ (λ i. so_far i ++ (is i ∷ []))
-      ∙ sym (map-append (hash_at file) (take k numbers) (get_or numbers k 0 ∷ []))
-      ∙ ap (hashes_at file) (sym (take-suc numbers k 0 inside))
-      ∙ ap (λ (j : ℕ). hashes_at file (take j numbers)) (sym (add-one k))
-
--- ---- bytes by the numbers that they make
-
-module _ (xs zs : List ℕ) (small-x : (i : ℕ) → byte_at xs i < 256) (small-z : (i : ℕ) → byte_at zs i < 256) where
-  -- so many bytes from a place on are the same
-  abbrev Same : (at size : ℕ) → Type 0
-  Same at size = (i : ℕ) → i < size → byte_at xs (at + i) ≡ byte_at zs (at + i)
-
-  same_join : (at size : ℕ) → Same at size → Same (at + size) size → Same at (size + size)
-  same_join at size low high i h = by (dec_lt i size)
-    where
-      by : Dec (i < size) → byte_at xs (at + i) ≡ byte_at zs (at + i)
-      by (yes l) = low i l
-      by (no l) =
-          let place : at + i ≡ at + size + (i - size) = omega arith in
-          ap (byte_at xs) place ∙ high (i - size) (omega arith) ∙ ap (byte_at zs) (sym place)
-
-  -- a number of two, four or eight bytes has each half as its own
-  two_bytes : (at : ℕ) → le2 xs at ≡ le2 zs at → Same at 2
-  two_bytes at e =
-      let a = small-x at in
-      let b = small-z at in
-      same_join at 1 (one at (omega arith)) (one (at + 1) (omega arith))
-    where
-      one : (at : ℕ) → byte_at xs at ≡ byte_at zs at → Same at 1
-      one at e i h = let place : at + i ≡ at = omega arith in ap (byte_at xs) place ∙ e ∙ ap (byte_at zs) (sym place)
-
-  two_small : (l : List ℕ) → ((i : ℕ) → byte_at l i < 256) → (at : ℕ) → le2 l at < 65536
-  two_small l small at = let a = small at in let b = small (at + 1) in omega arith
-
-  four_bytes : (at : ℕ) → le4 xs at ≡ le4 zs at → Same at 4
-  four_bytes at e =
-      let a = two_small xs small-x at in
-      let b = two_small zs small-z at in
-      same_join at 2 (two_bytes at (omega arith)) (two_bytes (at + 2) (omega arith))
-
-  four_small : (l : List ℕ) → ((i : ℕ) → byte_at l i < 256) → (at : ℕ) → le4 l at < 4294967296
-  four_small l small at = let a = two_small l small at in let b = two_small l small (at + 2) in omega arith
-
-  eight_bytes : (at : ℕ) → le8 xs at ≡ le8 zs at → Same at 8
-  eight_bytes at e =
-      let a = four_small xs small-x at in
-      let b = four_small zs small-z at in
-      same_join at 4 (four_bytes at (omega arith)) (four_bytes (at + 4) (omega arith))
-
-  -- so sixteen bytes are the same where the numbers of both halves are
-  pub halves_same : length xs ≡ 16 → length zs ≡ 16 → le8 xs 0 ≡ le8 zs 0 → le8 xs 8 ≡ le8 zs 8 → xs ≡ zs
-  halves_same sixteen-x sixteen-z first second =
-      ext_get_or 0 xs zs (sixteen-x ∙ sym sixteen-z)
-      (λ i h.
-      let place : 0 + i ≡ i = omega arith in
-      ap (byte_at xs) (sym place) ∙ same_join 0 8 (eight_bytes 0 first) (eight_bytes 8 second) i (omega arith) ∙ ap (byte_at zs) place)
+-- a number is among others just where one is equal to it
+pub member_any : (r : ℕ) (rs : List ℕ) → list_any (λ x. nat_eq x r) rs ≡ member r rs
+member_any r [] = refl
+member_any r (x ∷ rs) = λ i. either_way i || member_any r rs i
+  where
+    either_way : nat_eq x r ≡ eqb r x
+    either_way = let d = Decides-eqb r x in same_from_decides _ _ (Decides-eqb x r) ((λ e. sym (d.0 e)), (λ e. d.1 (sym e)))
 
 -- ---- two records with the same features have the same bytes there
 
@@ -130,28 +67,46 @@ module _ (left right : List ℕ) (small-left : (i : ℕ) → byte_at left i < 25
       all_true (λ k. equal (get_or (features_at left a) k (pos 0)) (get_or (features_at right b) k (pos 0))) feature_count
       (λ i h. equal_same _ _ (ap (λ (bytes : List ℕ). get_or (map signed_byte bytes) i (pos 0)) e))
 
-  -- a first half that differs decides, and otherwise the second does
-  abbrev same : Bool
-  same = same_features feature_count (item_at left a) (item_at right b)
-
-  pub first_differs : (le8 (feature_bytes left a) 0 ≡ le8 (feature_bytes right b) 0 → ⊥) → same ≡ false
-  first_differs other = not_true_false same (λ h. other (ap (λ (bytes : List ℕ). le8 bytes 0) (same_bytes h)))
-
-  pub second_decides : le8 (feature_bytes left a) 0 ≡ le8 (feature_bytes right b) 0 → eqb (le8 (feature_bytes left a) 8) (le8 (feature_bytes right b) 8) ≡ same
-  second_decides first = by (eqb (le8 (feature_bytes left a) 8) (le8 (feature_bytes right b) 8)) refl
-    where
-      by : (t : Bool) → eqb (le8 (feature_bytes left a) 8) (le8 (feature_bytes right b) 8) ≡ t → eqb (le8 (feature_bytes left a) 8) (le8 (feature_bytes right b) 8) ≡ same
-      by true e =
-          e
-          ∙ sym (bytes_same (halves_same (feature_bytes left a) (feature_bytes right b) (feature_bytes_small left small-left a) (feature_bytes_small right small-right b)
-          (bytes_sixteen left a stored-a) (bytes_sixteen right b stored-b) first (eqb-true _ _ e)))
-      by false e = e ∙ sym (not_true_false same (λ h. eqb-false _ _ e (ap (λ (bytes : List ℕ). le8 bytes 8) (same_bytes h))))
+  -- so `==` of the bytes decides
+  pub bytes_decide : (r : Bool) → r ≡ bytes_eq (feature_bytes left a) (feature_bytes right b)
+      → r ≡ same_features feature_count (item_at left a) (item_at right b)
+  bytes_decide r e = e ∙ same_from_decides _ _ (bytes_eq-Decides _ _) (same_bytes, bytes_same)
 
 -- ---- a search of records
 
 -- a part that goes to the end
 pub part_from : (l : List ℕ) (k : ℕ) → take (length l - k) (drop k l) ≡ drop k l
 part_from l k = take_all (length l - k) (drop k l) (omega (arith, length-drop k l))
+
+-- one of the records stands in the file
+pub stored_item : (file numbers : List ℕ) → AllStored file numbers → {r k : ℕ} → k < length numbers → r ≡ get_or numbers k r → Stored file r
+stored_item file numbers stored {r} {k} h e = subst (Stored file) (sym (e ∙ get_or_default_zero numbers k r h)) (stored k h)
+
+-- the same of one beside its hash
+stored_pair : (file numbers hashes : List ℕ) → AllStored file numbers → (p : ℕ × ℕ) (k : ℕ) → k < length (zip numbers hashes)
+    → p ≡ get_or (zip numbers hashes) k p → Stored file p.0
+stored_pair file [] hashes stored p k h e = absurd (omega arith)
+stored_pair file (r ∷ numbers) [] stored p k h e = absurd (omega arith)
+stored_pair file (r ∷ numbers) (x ∷ hashes) stored p zero h e = subst (λ (pair : ℕ × ℕ). Stored file pair.0) (sym e) (stored 0 (omega arith))
+stored_pair file (r ∷ numbers) (x ∷ hashes) stored p (suc k) h e = stored_pair file numbers hashes (λ j l. stored (suc j) (suc-le-suc l)) p k (le_of_suc-le-suc h) e
+
+-- what holds of each of a list holds of each that passes a test
+module _ {A : Type 0} (P : A → Type 0) (test : A → Bool) where
+  passed : (xs : List A) → ((x : A) (k : ℕ) → k < length xs → x ≡ get_or xs k x → P x)
+      → (x : A) (k : ℕ) → k < length (filter test xs) → x ≡ get_or (filter test xs) k x → P x
+  passed [] each = each
+  passed (y ∷ ys) each = by (test y) (passed ys (λ x k h e. each x (suc k) (suc-le-suc h) e))
+    where
+      by : (t : Bool) → ((x : A) (k : ℕ) → k < length (filter test ys) → x ≡ get_or (filter test ys) k x → P x)
+          → (x : A) (k : ℕ) → k < length (cond t (y ∷ filter test ys) (filter test ys)) → x ≡ get_or (cond t (y ∷ filter test ys) (filter test ys)) k x → P x
+      by false rest x k h e = rest x k h e
+      by true rest x zero h e = each x 0 (omega arith) e
+      by true rest x (suc k) h e = rest x k (le_of_suc-le-suc h) e
+
+-- one beside its hash that passes a test stands in the file
+pub stored_hashed : (test : ℕ × ℕ → Bool) (file numbers hashes : List ℕ) → AllStored file numbers → (p : ℕ × ℕ) (k : ℕ)
+    → k < length (filter test (zip numbers hashes)) → p ≡ get_or (filter test (zip numbers hashes)) k p → Stored file p.0
+stored_hashed test file numbers hashes stored = passed (λ p. Stored file p.0) test (zip numbers hashes) (stored_pair file numbers hashes stored)
 
 -- the rest of a list of records that all stand in the file
 pub stored-drop : (file numbers : List ℕ) (k : ℕ) → AllStored file numbers → AllStored file (drop k numbers)
@@ -174,25 +129,29 @@ module _ (left : List ℕ) (small-left : (i : ℕ) → byte_at left i < 256) (a 
           (λ h. eqb-false (hash_at left a) (hash_at file r) (||_neither (eqb (hash_at left a) (hash_at file r)) _ none).0
           (ap hash (same_bytes left file small-left small a r stored-a (stored 0 (omega arith)) h)))
 
--- one record is passed, or found
-module _ (d : ℕ) (item : Item) (file numbers : List ℕ) (k : ℕ) (inside : k < length numbers) where
-  at_place : repeated d item (items_at file (drop k numbers)) ≡ same_features d item (item_at file (get_or numbers k 0)) || repeated d item (items_at file (drop (suc k) numbers))
+  -- the features are repeated just where one of the records that have the hash has them
+  pub repeated_hashed : (numbers : List ℕ) → AllStored file numbers
+      → list_any (λ (p : ℕ × ℕ). same_features feature_count (item_at left a) (item_at file p.0))
+      (filter (λ (p : ℕ × ℕ). nat_eq p.1 (hash_at left a)) (zip numbers (hashes_at file numbers)))
+      ≡ repeated feature_count (item_at left a) (items_at file numbers)
   unfolding repeated
-  at_place = ap (λ l. repeated d item (items_at file l)) (drop-cons numbers k 0 inside)
+  repeated_hashed [] stored = refl
+  repeated_hashed (r ∷ numbers) stored =
+      by (repeated_hashed numbers (λ k h. stored (suc k) (suc-le-suc h))) (nat_eq (hash_at file r) (hash_at left a)) refl
+    where
+      test : ℕ × ℕ → Bool
+      test p = same_features feature_count (item_at left a) (item_at file p.0)
 
-  pub repeated_found : same_features d item (item_at file (get_or numbers k 0)) ≡ true → repeated d item (items_at file (drop k numbers)) ≡ true
-  repeated_found e = at_place ∙ ap (λ t. t || repeated d item (items_at file (drop (suc k) numbers))) e
+      rest : List (ℕ × ℕ)
+      rest = filter (λ (p : ℕ × ℕ). nat_eq p.1 (hash_at left a)) (zip numbers (hashes_at file numbers))
 
-  pub repeated_on : same_features d item (item_at file (get_or numbers k 0)) ≡ false
-      → repeated d item (items_at file (drop k numbers)) ≡ repeated d item (items_at file (drop (k + 1) numbers))
-  repeated_on e =
-      at_place
-      ∙ ap (λ t. t || repeated d item (items_at file (drop (suc k) numbers))) e
-      ∙ ap (λ (j : ℕ). repeated d item (items_at file (drop j numbers))) (sym (add-one k))
-
-pub repeated_end : (d : ℕ) (item : Item) (file numbers : List ℕ) (k : ℕ) → length numbers ≤ k → repeated d item (items_at file (drop k numbers)) ≡ false
-unfolding repeated
-repeated_end d item file numbers k h = ap (λ l. repeated d item (items_at file l)) (drop_of_length-le numbers {i = k} h)
+      by : list_any test rest ≡ repeated feature_count (item_at left a) (items_at file numbers) → (t : Bool) → nat_eq (hash_at file r) (hash_at left a) ≡ t
+          → list_any test (cond t ((r, hash_at file r) ∷ rest) rest) ≡ same_features feature_count (item_at left a) (item_at file r) || repeated feature_count (item_at left a) (items_at file numbers)
+      by more true e = ap (λ t. test (r, hash_at file r) || t) more
+      by more false e =
+          more
+          ∙ ap (λ t. t || repeated feature_count (item_at left a) (items_at file numbers))
+          (sym (not_true_false _ (λ same. eqb-false _ _ e (sym (ap hash (same_bytes left file small-left small a r stored-a (stored 0 (omega arith)) same))))))
 
 -- ---- the numbers of those that stay, moved to the first places
 
@@ -204,9 +163,6 @@ module _ (file : List ℕ) (later : List Item) where
     pub places : length numbers ≡ length before
     pub rest : drop k numbers ≡ drop k before
     pub so_far : take kept numbers ++ staying_at file later (drop k before) ≡ staying_at file later before
-
-  pub keeping_none : (numbers : List ℕ) → Keeping numbers numbers 0 0
-  keeping_none numbers = record { below = omega arith; within = omega arith; places = refl; rest = refl; so_far = refl }
 
   module _ (before numbers : List ℕ) (kept k : ℕ) (so : Keeping before numbers kept k) where
     -- the number at place k has not been moved, nor has any after it
@@ -282,44 +238,26 @@ pub stays_is : (file later-file later : List ℕ) (r : ℕ) (rest : List ℕ) {o
 stays_is file later-file later r rest own other =
     (λ i. not (own i || other i)) ∙ ap not (sym (repeated-append feature_count (item_at file r) (items_at file rest) (items_at later-file later)))
 
--- the hash of a record, and those of the rest
-pub hash_at_lem : (file numbers : List ℕ) (k : ℕ) → k < length numbers → get_or (hashes_at file numbers) k 0 ≡ hash_at file (get_or numbers k 0)
-hash_at_lem file [] k h = absurd (omega arith)
-hash_at_lem file (r ∷ numbers) zero h = refl
-hash_at_lem file (r ∷ numbers) (suc k) h = hash_at_lem file numbers k (le_of_suc-le-suc h)
-
-pub hashes_drop : (file numbers : List ℕ) (k : ℕ) → drop k (hashes_at file numbers) ≡ hashes_at file (drop k numbers)
-hashes_drop file numbers zero = refl
-hashes_drop file [] (suc k) = refl
-hashes_drop file (r ∷ numbers) (suc k) = hashes_drop file numbers k
-
 -- ---- those that stay, at the first places
 
--- a part from the start on
-pub part_to : (l : List ℕ) (count : ℕ) → take (count - 0) l ≡ take count l
-part_to l count = ap (λ (k : ℕ). take k l) (let e : count - 0 ≡ count = omega arith in e)
-
 module _ (file : List ℕ) (later : List Item) (before after : List ℕ) (count : ℕ) (kept : Kept file later before after count) where
-  staying_are : take (count - 0) after ≡ staying_at file later before
-  staying_are = part_to after count ∙ kept.first
-
   -- they stand in the file, and are not more than before
-  pub kept_stored : FewStored file before → FewStored file (take (count - 0) after)
+  pub kept_stored : FewStored file before → FewStored file (take (count) after)
   kept_stored few =
-      subst (FewStored file) (sym staying_are)
+      subst (FewStored file) (sym kept.first)
       (record {
         few = le_trans (staying-length (stays_at file later) before) few.few;
         stored = staying_all (Stored file) 0 (stays_at file later) before few.stored;
       })
 
   -- their items are those that stay
-  pub kept_items : items_at file (take (count - 0) after) ≡ staying (λ item more. is_last feature_count item (more ++ later)) (items_at file before)
-  kept_items = ap (items_at file) staying_are ∙ staying_map (item_at file) (λ item more. is_last feature_count item (more ++ later)) before
+  pub kept_items : items_at file (take (count) after) ≡ staying (λ item more. is_last feature_count item (more ++ later)) (items_at file before)
+  kept_items = ap (items_at file) kept.first ∙ staying_map (item_at file) (λ item more. is_last feature_count item (more ++ later)) before
 
 -- those of both files are the last of all
 module _ (older numbers kept-older : List ℕ) (older_count : ℕ) (newer numbers' kept-newer : List ℕ) (newer_count : ℕ)
     (k : Kept older (items_at newer numbers') numbers kept-older older_count) (k' : Kept newer [] numbers' kept-newer newer_count) where
-  newer_items : items_at newer (take (newer_count - 0) kept-newer) ≡ last_only feature_count (items_at newer numbers')
+  newer_items : items_at newer (take (newer_count) kept-newer) ≡ last_only feature_count (items_at newer numbers')
   unfolding staying
   newer_items =
       kept_items newer [] numbers' kept-newer newer_count k'
@@ -327,7 +265,7 @@ module _ (older numbers kept-older : List ℕ) (older_count : ℕ) (newer number
       ∙ sym (staying_parts feature_count (items_at newer numbers') [])
       ∙ ap (last_only feature_count) (append-nil (items_at newer numbers'))
 
-  pub kept_both : items_at older (take (older_count - 0) kept-older) ++ items_at newer (take (newer_count - 0) kept-newer)
+  pub kept_both : items_at older (take (older_count) kept-older) ++ items_at newer (take (newer_count) kept-newer)
       ≡ last_only feature_count (items_at older numbers ++ items_at newer numbers')
   kept_both =
       (λ i. kept_items older (items_at newer numbers') numbers kept-older older_count k i ++ newer_items i)

@@ -9,6 +9,7 @@ use native.Mathlib.Omega.{arith}
 use lib.IntN.{ℤ, pos}
 use lib.ListN.{length, get_or, take, drop, length-drop, take-append-drop}
 use lib.Seq.{get_or-drop}
+use Rattle.std.specs.Cmp.{both_ways}
 use Rattle.integers.specs.Equal.{equal}
 use Rattle.integers.specs.Places.{all}
 use Rattle.integers.proofs.Laws.Equal.{equal_is, equal_same}
@@ -80,12 +81,6 @@ staying_map f stays (x ∷ xs) =
     ∙ (λ j. cond (stays (f x) (map f xs)) (f x ∷ staying_map f stays xs j) (staying_map f stays xs j))
 
 -- ---- "the same d features"
-
--- two tests that pass together
-both_ways : (s t : Bool) → (s ≡ true → t ≡ true) → (t ≡ true → s ≡ true) → s ≡ t
-both_ways true t f g = sym (f refl)
-both_ways false true f g = g refl
-both_ways false false f g = refl
 
 -- a test that passes with another one
 absorbed : (s t : Bool) → (s ≡ true → t ≡ true) → t ≡ (s || t)

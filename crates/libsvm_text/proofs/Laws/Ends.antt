@@ -11,7 +11,7 @@ use borrow.Author.Tests.{eq-eqb}
 use Rattle.integers.proofs.Laws.Truth.{clash}
 use Rattle.libsvm_text.specs.Form.{Line, groups_text, line_text, sign_byte, text_of}
 use Rattle.libsvm_text.specs.Lines.{text_lines}
-use Rattle.libsvm_text.specs.Read.{text_ends}
+use Rattle.libsvm_text.specs.Places.{text_ends}
 use Rattle.libsvm_text.proofs.Laws.Lines.{lines_exactly}
 
 -- the last byte of a text that ends with a newline

@@ -16,7 +16,8 @@ use Rattle.training_file.specs.declared.item.Label.TheVariants.{LookedUp, Passed
 use Rattle.libsvm_text.specs.Form.{Line, Value, digit, value_formed, value_text}
 use Rattle.libsvm_text.specs.Lines.{State, after_label, after_sign, at_start, in_number, wrong}
 use Rattle.libsvm_text.specs.Lines.{ended, is_empty, last_of, lines_from, number_fits, step, with_group}
-use Rattle.libsvm_text.specs.Read.{Within, group_leads, group_length, leading, leading_group, leading_value, minus_at}
+use Rattle.libsvm_text.specs.Places.{Within}
+use Rattle.libsvm_text.specs.Read.{group_leads, group_length, leading, leading_group, leading_value, minus_at}
 use Rattle.libsvm_text.proofs.Laws.Numeral.{goes_on_lem, leading_digits, leading_ends, leading_from, leading_splits, leading_stops}
 use Rattle.libsvm_text.proofs.Laws.Steps.{decided, number_digits, partly, value_digits, value_ends, wrong_stays}
 
@@ -162,7 +163,7 @@ module _ (d : ℕ) where
 
 -- ---- a group ends within a text that ends with a newline
 
-digits_within : (text : List ℕ) (at k : ℕ) → Within text at → k ≡ length (leading (drop at text)) → Within text (at + k)
+pub digits_within : (text : List ℕ) (at k : ℕ) → Within text at → k ≡ length (leading (drop at text)) → Within text (at + k)
 digits_within text at zero here e = subst (Within text) (sym (add-zero at)) here
 digits_within text at (suc k) here e =
     let one = by (digit (get_or text at 0)) refl in

@@ -6,16 +6,20 @@ use Prim.Native.Nat.{ℕ, suc, ◌+◌, ◌-◌, ◌*◌, ◌≤◌, ◌<◌}
 use native.Mathlib.Decide.{dec_lt}
 use native.Mathlib.Numerals.{add-one}
 use native.Mathlib.Omega.{arith}
-use borrow.Author.Tests.{eqb-true, leb-true, le-leb, ne_eqb}
+use borrow.Author.Tests.{eqb-true, leb-true, le-leb, lt-leb, ne_eqb}
 use lib.Dec.{eqb, leb}
 use lib.ListN.{get_or-eq_default, drop, drop_of_length-le, get_or, length}
 use lib.Seq.{drop-cons}
+use Rattle.std.specs.Prelude.{None, Option, Some}
+use Rattle.std.specs.List.{prefix_len}
 use Rattle.integers.proofs.Laws.Truth.{&&_left, &&_right, &&_true, clash}
 use Rattle.text.specs.Decimal.{value}
 use Rattle.training_file.specs.Item.{feature_most}
 use Rattle.training_file.specs.Record.{every}
 use Rattle.libsvm_text.specs.Form.{digit, number, numeral}
-use Rattle.libsvm_text.specs.Read.{ReadsDigits, Tells, Within, leading, leads}
+use Rattle.libsvm_text.specs.declared.place.Found.{Found}
+use Rattle.libsvm_text.specs.Places.{Within}
+use Rattle.libsvm_text.specs.Read.{DigitsFound, leading, leads, limited}
 
 -- ---- places
 
@@ -61,6 +65,16 @@ leading_ends (byte ∷ text) = by (digit byte) refl (leading_ends text)
     by true h rest = ap (λ (l : List ℕ). digit (get_or (byte ∷ text) (length l) 0)) (leading_more byte text h) ∙ rest
     by false h rest = ap (λ (l : List ℕ). digit (get_or (byte ∷ text) (length l) 0)) (leading_none byte text h) ∙ h
 
+-- so many as `prefix_len` counts
+pub leading_count : (text : List ℕ) → length (leading text) ≡ prefix_len digit text
+unfolding leading
+leading_count [] = refl
+leading_count (byte ∷ text) = by (digit byte) refl (leading_count text)
+  where
+    by : (t : Bool) → digit byte ≡ t → length (leading text) ≡ prefix_len digit text → length (leading (byte ∷ text)) ≡ prefix_len digit (byte ∷ text)
+    by true h rest = omega (arith, ap length (leading_more byte text h), ap (λ t. cond t (1 + prefix_len digit text) 0) h)
+    by false h rest = omega (arith, ap length (leading_none byte text h), ap (λ t. cond t (1 + prefix_len digit text) 0) h)
+
 pub leading_splits : (text : List ℕ) → text ≡ leading text ++ drop (length (leading text)) text
 unfolding leading
 leading_splits [] = refl
@@ -98,9 +112,6 @@ module _ (text : List ℕ) (at : ℕ) where
 
 -- the digits at a place, by the bytes there
 module _ (text : List ℕ) (at : ℕ) where
-  pub digit_goes_on : Within text at → digit (get_or text at 0) ≡ true → Within text (at + 1)
-  digit_goes_on h is = goes_on_lem text at h (λ e. clash is (ap digit e))
-
   module _ (first : digit (get_or text at 0) ≡ true) where
     pub leading_one : digit (get_or text (at + 1) 0) ≡ false → leading (drop at text) ≡ get_or text at 0 ∷ []
     leading_one stop = leading_from text at first ∙ ap (◌∷◌ (get_or text at 0)) (leading_stops text (at + 1) stop)
@@ -122,10 +133,6 @@ module _ (text : List ℕ) (at : ℕ) where
           (leading_from text (at + 2) third ∙ ap (λ n. get_or text (at + 2) 0 ∷ leading (drop n text)) next)
 
 -- ---- the number that digits say
-
-length_zero : (l : List ℕ) → length l ≡ 0 → l ≡ []
-length_zero [] e = refl
-length_zero (byte ∷ more) e = absurd (omega arith)
 
 grows : (so_far : ℕ) (digits : List ℕ) → so_far ≤ value so_far digits
 unfolding value
@@ -149,11 +156,6 @@ module _ (first : ℕ) where
     pub one_least : first - 48 ≤ number (first ∷ more)
     unfolding value
     one_least = omega (arith, grows (0 * 10 + (first - 48)) more)
-
-    pub three_least : (second third : ℕ) → 49 ≤ first → 100 ≤ number (first ∷ second ∷ third ∷ more)
-    unfolding value
-    three_least second third h =
-        omega (arith, grows (((0 * 10 + (first - 48)) * 10 + (second - 48)) * 10 + (third - 48)) more)
 
     four_least : (second third fourth : ℕ) → 49 ≤ first → 1000 ≤ number (first ∷ second ∷ third ∷ fourth ∷ more)
     unfolding value
@@ -206,11 +208,12 @@ module _ (text : List ℕ) (at : ℕ) (h : leads (get_or text at 0) ≡ true) wh
 
 -- ---- what is told of a number
 
-pub tells_same : {told said : ℕ} → told ≡ said → Tells told said
-tells_same e = record { same = λ h. e; past = λ h. rw e h }
+module _ (said : ℕ) where
+  pub limited_within : said ≤ feature_most → Some said ≡ limited said
+  limited_within h = sym (ap (λ t. cond t (Some said) None) (le-leb said feature_most h))
 
-pub tells_past : {told said : ℕ} → feature_most < told → feature_most < said → Tells told said
-tells_past far past = record { same = λ h. absurd (omega arith); past = λ h. far }
+  pub limited_past : feature_most < said → None ≡ limited said
+  limited_past h = sym (ap (λ t. cond t (Some said) None) (lt-leb said feature_most h))
 
 -- ---- the digits that are read at a place
 
@@ -218,54 +221,56 @@ module _ (text : List ℕ) (at : ℕ) (h : leads (get_or text at 0) ≡ true) wh
   first : digit (get_or text at 0) ≡ true
   first = leads_digit (get_or text at 0) h
 
-  pub reads_one : digit (get_or text (at + 1) 0) ≡ false → ReadsDigits text at (record { number = get_or text at 0 - 48; end = at + 1 })
-  reads_one stop =
-      let all = leading_one text at first stop in
+  -- all of them, and the number that is told of theirs
+  found : {read : Found (Option ℕ)} (all : List ℕ) → leading (drop at text) ≡ all → read.what ≡ limited (number all) → read.end ≡ at + length all
+      → DigitsFound text at read
+  found all is told end =
       record {
-        tells = tells_same (sym (ap number all ∙ number_one (get_or text at 0)));
-        end_is = rw all refl;
+        leads_is = h;
+        number_is = told ∙ sym (ap (λ l. limited (number l)) is);
+        end_is = end ∙ sym (ap (λ (l : List ℕ). at + length l) is);
       }
+
+  pub reads_one : digit (get_or text (at + 1) 0) ≡ false → DigitsFound text at (record { what = Some (get_or text at 0 - 48); end = at + 1 })
+  reads_one stop =
+      let said = number_one (get_or text at 0) in
+      let most = digit_most (get_or text at 0) first in
+      found (get_or text at 0 ∷ []) (leading_one text at first stop) (ap Some (sym said) ∙ limited_within _ (omega (arith, said, most))) refl
 
   module _ (second : digit (get_or text (at + 1) 0) ≡ true) where
     abbrev two : ℕ
     two = (get_or text at 0 - 48) * 10 + (get_or text (at + 1) 0 - 48)
 
-    pub reads_two : digit (get_or text (at + 2) 0) ≡ false → ReadsDigits text at (record { number = two; end = at + 2 })
+    pub reads_two : digit (get_or text (at + 2) 0) ≡ false → DigitsFound text at (record { what = Some two; end = at + 2 })
     reads_two stop =
         let all = leading_two text at first second ∙ ap (λ l. get_or text at 0 ∷ get_or text (at + 1) 0 ∷ l) (leading_stops text (at + 2) stop) in
-        record {
-          tells = tells_same (sym (ap number all ∙ number_two (get_or text at 0) (get_or text (at + 1) 0)));
-          end_is = rw all refl;
-        }
+        let said = number_two (get_or text at 0) (get_or text (at + 1) 0) in
+        let one_most = digit_most (get_or text at 0) first in
+        let two_most = digit_most (get_or text (at + 1) 0) second in
+        found (get_or text at 0 ∷ get_or text (at + 1) 0 ∷ []) all (ap Some (sym said) ∙ limited_within _ (omega (arith, said, one_most, two_most))) refl
 
-    module _ (third : digit (get_or text (at + 2) 0) ≡ true) {end : ℕ} (is : end ≡ at + 3 + length (leading (drop (at + 3) text))) where
-      all_three : leading (drop at text) ≡ get_or text at 0 ∷ get_or text (at + 1) 0 ∷ get_or text (at + 2) 0 ∷ leading (drop (at + 3) text)
-      all_three = leading_three text at first second third
+    module _ (third : digit (get_or text (at + 2) 0) ≡ true) where
+      abbrev three : ℕ
+      three = two * 10 + (get_or text (at + 2) 0 - 48)
 
-      end_there : end ≡ at + length (leading (drop at text))
-      end_there = omega (arith, is, ap length all_three)
+      pub reads_three : {told : Option ℕ} → digit (get_or text (at + 3) 0) ≡ false → told ≡ limited three
+          → DigitsFound text at (record { what = told; end = at + 3 })
+      reads_three stop is =
+          found (get_or text at 0 ∷ get_or text (at + 1) 0 ∷ get_or text (at + 2) 0 ∷ [])
+          (leading_three text at first second third
+          ∙ ap (λ l. get_or text at 0 ∷ get_or text (at + 1) 0 ∷ get_or text (at + 2) 0 ∷ l) (leading_stops text (at + 3) stop))
+          (is ∙ sym (ap limited (number_three (get_or text at 0) (get_or text (at + 1) 0) (get_or text (at + 2) 0)))) refl
 
-      pub reads_three : end ≡ at + 3 → ReadsDigits text at (record { number = two * 10 + (get_or text (at + 2) 0 - 48); end = end })
-      reads_three e =
-          let none : leading (drop (at + 3) text) ≡ [] = length_zero (leading (drop (at + 3) text)) (omega (arith, is)) in
-          record {
-            tells =
-                tells_same (
-                sym (
-                ap number (all_three ∙ ap (λ l. get_or text at 0 ∷ get_or text (at + 1) 0 ∷ get_or text (at + 2) 0 ∷ l) none)
-                ∙ number_three (get_or text at 0) (get_or text (at + 1) 0) (get_or text (at + 2) 0)));
-            end_is = end_there;
-          }
-
-      pub reads_more : (end ≡ at + 3 → ⊥) → ReadsDigits text at (record { number = 1000; end = end })
-      reads_more other = record { tells = tells_past (omega arith) (by (leading (drop (at + 3) text)) refl); end_is = end_there }
-        where
-          by : (l : List ℕ) → leading (drop (at + 3) text) ≡ l → feature_most < number (leading (drop at text))
-          by [] e = absurd (other (omega (arith, is, ap length e)))
-          by (fourth ∷ more) e =
-              let all = all_three ∙ ap (λ l. get_or text at 0 ∷ get_or text (at + 1) 0 ∷ get_or text (at + 2) 0 ∷ l) e in
-              rw all (
-              omega (
-                arith,
-                four_least (get_or text at 0) more (get_or text (at + 1) 0) (get_or text (at + 2) 0) fourth (leads_least (get_or text at 0) h),
-              ))
+      -- a number of more digits is past every limit
+      pub reads_more : {more : ℕ} → digit (get_or text (at + 3) 0) ≡ true → more ≡ length (leading (drop (at + 4) text))
+          → DigitsFound text at (record { what = None; end = at + 4 + more })
+      reads_more {more} fourth is =
+          let next : at + 3 + 1 ≡ at + 4 = omega arith in
+          let rest = leading (drop (at + 4) text) in
+          let far = four_least (get_or text at 0) rest (get_or text (at + 1) 0) (get_or text (at + 2) 0) (get_or text (at + 3) 0)
+          (leads_least (get_or text at 0) h) in
+          found (get_or text at 0 ∷ get_or text (at + 1) 0 ∷ get_or text (at + 2) 0 ∷ get_or text (at + 3) 0 ∷ rest)
+          (leading_three text at first second third
+          ∙ ap (λ l. get_or text at 0 ∷ get_or text (at + 1) 0 ∷ get_or text (at + 2) 0 ∷ l)
+          (leading_from text (at + 3) fourth ∙ ap (λ n. get_or text (at + 3) 0 ∷ leading (drop n text)) next))
+          (limited_past _ (omega (arith, far))) (omega (arith, is))

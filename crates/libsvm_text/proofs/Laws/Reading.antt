@@ -1,6 +1,6 @@
 -- Laws of reading the groups of a line, one by one. Assumes nothing.
 use mathlib.Core.Path.{◌≡◌, refl, sym, ◌∙◌, ap}
-use mathlib.Core.Bool.{Bool, true, false, ◌&&◌, ◌||◌, not, cond}
+use mathlib.Core.Bool.{Bool, true, false, ◌&&◌, not, cond, and-true, and-false}
 use mathlib.Core.List.{List, [], ◌∷◌, ◌++◌}
 use mathlib.Core.Option.{Option, none}
 use Prim.Native.Nat.{ℕ, ◌+◌, ◌-◌, ◌≤◌, ◌<◌}
@@ -10,16 +10,19 @@ use lib.Dec.{eqb, leb, ltb}
 use lib.IntN.{ℤ, pos}
 use lib.ListN.{drop, get_or, length, length-replicate, length-set, replicate, set}
 use lib.Seq.{drop-drop, get_or-drop}
-use borrow.Author.Tests.{eq-eqb, le-leb, leb-true, lt-ltb, ltb-true, ne_eqb}
-use Rattle.integers.proofs.Laws.Truth.{&&_both, &&_left, &&_right, &&_true}
+use borrow.Author.Tests.{eq-eqb, le-leb, leb-true, lt-ltb, ltb-true}
+use Rattle.std.specs.Prelude.{None, Some}
+use Rattle.integers.proofs.Laws.Truth.{&&_left, &&_right, &&_true, clash}
 use Rattle.training_file.specs.declared.item.Label.{Label}
 use Rattle.training_file.specs.Layout.{feature_count}
 use Rattle.training_file.specs.Record.{every}
 use Rattle.libsvm_text.specs.declared.group.GroupRead.{GroupRead}
+use Rattle.libsvm_text.specs.declared.place.Found.{Found}
 use Rattle.libsvm_text.specs.Form.{Group, Line, number, numeral, rising, value_formed}
 use Rattle.libsvm_text.specs.Items.{group_allowed, line_features, value_of}
 use Rattle.libsvm_text.specs.Lines.{after_label, in_number, last_of, lines_from, with_group}
-use Rattle.libsvm_text.specs.Read.{GroupsBetween, GroupsFound, ReadsGroup, group_leads, group_length, leading, leading_group, text_ends}
+use Rattle.libsvm_text.specs.Places.{text_ends}
+use Rattle.libsvm_text.specs.Read.{GroupFound, GroupsBetween, group_leads, group_length, leading, leading_group}
 use Rattle.libsvm_text.proofs.Laws.Numeral.{goes_on_lem}
 use Rattle.libsvm_text.proofs.Laws.Groups.{group_read, group_within, labelled, space_read}
 use Rattle.libsvm_text.proofs.Laws.Steps.{chosen, refused}
@@ -50,18 +53,6 @@ so_far_none d text start h =
       wide_is = refl;
       features_are = λ allowed. features_none;
       sixteen = length-replicate feature_count (pos 0);
-    }
-
--- where the byte after them is no space they are all
-pub so_far_all : (d : ℕ) (text : List ℕ) (start : ℕ) {features : List ℤ} {wide : Bool} {last at : ℕ} → GroupsSoFar d text start features wide last at
-    → (get_or text at 0 ≡ 32 → ⊥) → GroupsFound d text start (record { formed = true; wide = wide; features = features; end = at })
-so_far_all d text start {at = at} so_far other =
-    record {
-      groups = so_far.groups;
-      between = so_far.between;
-      last = ne_eqb (get_or text at 0) 32 other;
-      wide_is = so_far.wide_is;
-      features_are = so_far.features_are;
     }
 
 -- the feature number of a group that leads is within its bounds
@@ -109,23 +100,14 @@ module _ (d : ℕ) (text : List ℕ) (start : ℕ) (features : List ℤ) (wide :
   so_far_wrong h before label = another before label ∙ refused (followed before label) h
 
   -- and is one of the form
-  module _ (ends : text_ends text ≡ true) (read : GroupRead) (reads : ReadsGroup d last text (at + 1) read) (formed : read.formed ≡ true) where
-    leads : group_leads d last rest ≡ true
-    leads = sym reads.formed_is ∙ formed
+  module _ (ends : text_ends text ≡ true) (read : Found GroupRead) (reads : GroupFound d last text (at + 1) read) where
+    more_onward : at < read.end
+    more_onward = omega (arith, reads.end_is)
 
-    pub more_above : last < read.number
-    more_above = rw (reads.number_is formed) (leads_above d last rest leads)
-
-    pub more_most : read.number ≤ d
-    more_most = rw (reads.number_is formed) (leads_most d last rest leads)
-
-    pub more_onward : at < read.end
-    more_onward = omega (arith, reads.end_is formed)
-
-    pub more_within : read.end < length text
+    more_within : read.end < length text
     more_within =
         let next = goes_on_lem text at (record { ends = ends; place = so_far.between.within }) (λ e. omega (arith, sym e ∙ space)) in
-        omega (arith, reads.end_is formed, (group_within d last text (at + 1) next leads).place)
+        omega (arith, reads.end_is, (group_within d last text (at + 1) next reads.leads_is).place)
 
     abbrev group : Group
     group = leading_group rest
@@ -134,7 +116,7 @@ module _ (d : ℕ) (text : List ℕ) (start : ℕ) (features : List ℤ) (wide :
     more = so_far.groups ++ (group ∷ [])
 
     above : last_of 0 so_far.groups < number (leading rest)
-    above = rw (← so_far.last_is) (leads_above d last rest leads)
+    above = rw (← so_far.last_is) (leads_above d last rest reads.leads_is)
 
     more_between : GroupsBetween d text start read.end more
     more_between =
@@ -142,43 +124,63 @@ module _ (d : ℕ) (text : List ℕ) (start : ℕ) (features : List ℤ) (wide :
           found =
               λ before label.
               another before label
-              ∙ chosen (followed before label) leads
-              ∙ ap (λ end. lines_from d (after_label before (record { label = label; groups = more })) (drop end text)) (sym (reads.end_is formed));
+              ∙ chosen (followed before label) reads.leads_is
+              ∙ ap (λ end. lines_from d (after_label before (record { label = label; groups = more })) (drop end text)) (sym reads.end_is);
           rises =
               rising-append d 0 so_far.groups group
-              ∙ &&_true so_far.between.rises (&&_true (lt-ltb _ _ above) (le-leb _ _ (leads_most d last rest leads)));
+              ∙ &&_true so_far.between.rises (&&_true (lt-ltb _ _ above) (le-leb _ _ (leads_most d last rest reads.leads_is)));
           onward = omega (arith, so_far.between.onward, more_onward);
           within = more_within;
         }
 
-    more_wide : wide || read.wide ≡ not (every group_allowed more)
-    more_wide =
-        (λ i. so_far.wide_is i || reads.wide_is formed i)
-        ∙ not_both (every group_allowed so_far.groups) (group_allowed group)
-        ∙ ap not (sym (every_append group_allowed so_far.groups group))
-      where
-        not_both : (s t : Bool) → not s || not t ≡ not (s && t)
-        not_both true t = refl
-        not_both false t = refl
-
-    more_features : d ≤ feature_count → every group_allowed more ≡ true → set features (read.number - 1) read.feature ≡ line_features more
-    more_features most allowed =
-        let each = sym (every_append group_allowed so_far.groups group) ∙ allowed in
-        let both = &&_both (every group_allowed so_far.groups) (group_allowed group) each in
-        let feature : read.feature ≡ value_of group.value =
-        reads.feature_is formed ∙ ap (λ t. cond t (value_of group.value) (pos 0)) both.1 in
-        (λ i. set (so_far.features_are both.0 i) (reads.number_is formed i - 1) (feature i))
-        ∙ features_more d so_far.groups group so_far.between.rises above (omega (arith, leads_most d last rest leads))
+    -- whether the group's value is within the range is what is told of it
+    more_allowed : (t : Bool) → group_allowed group ≡ t → every group_allowed more ≡ every group_allowed so_far.groups && t
+    more_allowed t e = every_append group_allowed so_far.groups group ∙ ap (λ t. every group_allowed so_far.groups && t) e
 
     -- the groups with it, where its feature is stored
-    pub so_far_more : d ≤ feature_count → (wider : Bool) (feature : ℤ) → wider ≡ wide || read.wide → feature ≡ read.feature
-        → GroupsSoFar d text start (set features (read.number - 1) feature) wider read.number read.end
-    so_far_more most wider feature e f =
+    pub so_far_more : d ≤ feature_count → {feature stored : ℤ} → read.what.feature ≡ Some feature → stored ≡ feature
+        → GroupsSoFar d text start (set features (read.what.number - 1) stored) wide read.what.number read.end
+    so_far_more range {feature} {stored} has same =
         record {
           groups = more;
           between = more_between;
-          last_is = reads.number_is formed ∙ sym (last-append 0 so_far.groups group);
-          wide_is = e ∙ more_wide;
-          features_are = λ allowed. ap (set features (read.number - 1)) f ∙ more_features most allowed;
+          last_is = reads.number_is ∙ sym (last-append 0 so_far.groups group);
+          wide_is = so_far.wide_is ∙ ap not (sym (more_allowed true allowed ∙ and-true _));
+          features_are = λ each.
+              (λ i.
+              set (so_far.features_are (sym (and-true _) ∙ sym (more_allowed true allowed) ∙ each) i) (reads.number_is i - 1) ((same ∙ told) i))
+              ∙ features_more d so_far.groups group so_far.between.rises above (omega (arith, leads_most d last rest reads.leads_is));
           sixteen = simp length-set so_far.sixteen;
         }
+      where
+        by : (t : Bool) → Some feature ≡ cond t (Some (value_of group.value)) None → (t ≡ true) × (feature ≡ value_of group.value)
+        by true e = (refl, cc)
+        by false e = absurd cc
+
+        both : (group_allowed group ≡ true) × (feature ≡ value_of group.value)
+        both = by (group_allowed group) (sym has ∙ reads.feature_is)
+
+        allowed : group_allowed group ≡ true
+        allowed = both.0
+
+        told : feature ≡ value_of group.value
+        told = both.1
+
+    -- and where there is none
+    pub so_far_wide : read.what.feature ≡ None → GroupsSoFar d text start features true read.what.number read.end
+    so_far_wide has =
+        record {
+          groups = more;
+          between = more_between;
+          last_is = reads.number_is ∙ sym (last-append 0 so_far.groups group);
+          wide_is = sym (ap not far);
+          features_are = λ each. clash each far;
+          sixteen = so_far.sixteen;
+        }
+      where
+        by : (t : Bool) → None ≡ cond t (Some (value_of group.value)) None → t ≡ false
+        by true e = absurd cc
+        by false e = refl
+
+        far : every group_allowed more ≡ false
+        far = more_allowed false (by (group_allowed group) (sym has ∙ reads.feature_is)) ∙ and-false _

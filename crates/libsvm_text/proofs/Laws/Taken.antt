@@ -1,14 +1,8 @@
--- What the code makes of `s && t` and `s || t`: t where s doesn't settle it, and s itself where it does. Assumes nothing.
+-- What the code makes of `s || t`: t where s doesn't settle it, and s itself where it does. Assumes nothing.
 use mathlib.Core.Path.{◌≡◌, sym, ◌∙◌, ap}
-use mathlib.Core.Bool.{Bool, true, false, ◌&&◌, ◌||◌}
+use mathlib.Core.Bool.{Bool, true, false, ◌||◌}
 
 module _ (s t : Bool) {made : Bool} where
-  pub and_then : s ≡ true → made ≡ t → made ≡ s && t
-  and_then h e = e ∙ sym (ap (λ s. s && t) h)
-
-  pub and_else : s ≡ false → made ≡ s → made ≡ s && t
-  and_else h e = e ∙ h ∙ sym (ap (λ s. s && t) h)
-
   pub or_taken : s ≡ true → made ≡ s → made ≡ s || t
   or_taken h e = e ∙ h ∙ sym (ap (λ s. s || t) h)
 

@@ -15,7 +15,8 @@ use Rattle.totals.specs.declared.sums.Shown.{Shown}
 use Rattle.totals.specs.declared.sums.Totals.{Totals}
 use Rattle.totals.proofs.Laws.Totals.{totals_cong}
 use Rattle.training_file.specs.declared.refusal.Refusal.{Refusal}
-use Rattle.lines.specs.Lines.{ending_text, field, item_line, items_with_total, joined, label_sign, record_field, refusal_line, result_line, total_line}
+use Rattle.training_file.specs.Refusal.{number_of, record_of}
+use Rattle.lines.specs.Lines.{ending_text, item_line, items_with_total, joined, label_sign, record_field, refusal_line, result_line, total_line}
 
 -- ---- texts one after the other
 joined_cong : (n : ℕ) (f g : ℕ → List ℕ) → ((i : ℕ) → i < n → f i ≡ g i) → joined n f ≡ joined n g
@@ -63,9 +64,4 @@ record_length zero = omega arith
 record_length (suc r) = simp length-append (omega (arith, decimal-length (suc r)))
 
 pub refusal-length : (why : Refusal) → length (refusal_line why) ≤ 50
-refusal-length why = simp length-append (omega (arith, decimal-length why.number, record_length why.at))
-
--- ---- the record of a refusal
-pub record_shown : (r : ℕ) → (r ≡ 0 → ⊥) → record_field r ≡ field r
-record_shown zero d = absurd (d refl)
-record_shown (suc r) d = refl
+refusal-length why = simp length-append (omega (arith, decimal-length (number_of why), record_length (record_of why)))

@@ -10,6 +10,7 @@ use lib.ListN.{get_or}
 use Rattle.training_file.specs.declared.item.Label.{Label}
 use Rattle.training_file.specs.declared.item.Label.TheVariants.{LookedUp, PassedOver}
 use Rattle.training_file.specs.declared.refusal.Refusal.{Refusal}
+use Rattle.training_file.specs.Refusal.{number_of, record_of}
 use Rattle.training_file.specs.Parameters.{records_most}
 use Rattle.smo.specs.declared.ending.Ending.{Ending}
 use Rattle.smo.specs.declared.ending.Ending.TheVariants.{Converged, Stuck, Spent}
@@ -82,11 +83,11 @@ unfolding free
 record_free zero = refl
 record_free (suc r) = field_free (suc r)
 
-refusal_ended : (why : Refusal) → EndedLine (refusal_line why) (refused_text ++ (field why.number ++ record_field why.at))
+refusal_ended : (why : Refusal) → EndedLine (refusal_line why) (refused_text ++ (field (number_of why) ++ record_field (record_of why)))
 unfolding free
 refusal_ended why =
     ended_after refused_text refl
-    (ended_after (field why.number) (field_free why.number) (ended_one (record_field why.at) (record_free why.at)))
+    (ended_after (field (number_of why)) (field_free (number_of why)) (ended_one (record_field (record_of why)) (record_free (record_of why))))
 
 abbrev item_body : Shown → List ℕ
 item_body shown = decimal shown.number ++ (32 ∷ label_sign shown.label ∷ 32 ∷ decimal shown.multiplier)
@@ -183,7 +184,7 @@ module _ (shown : ℕ → Shown) where
       sum_more (label_sign label) (separate n (λ i. item_body (shown i))) (item_body (shown n)) ∙ (λ k. sum_read_lem label n (λ i l. small i (omega arith)) k + one k)
 
 -- ---- the sheet: a refusal is one line, and everything else adds up
-pub refusal_one_line : (why : Refusal) → parts 10 (refusal_line why) ≡ (refused_text ++ (field why.number ++ record_field why.at)) ∷ [] ∷ []
+pub refusal_one_line : (why : Refusal) → parts 10 (refusal_line why) ≡ (refused_text ++ (field (number_of why) ++ record_field (record_of why))) ∷ [] ∷ []
 refusal_one_line why = parts_last (refusal_ended why)
 
 module _ (trained : Trained) (n : ℕ) (shown : ℕ → Shown) (few : n ≤ records_most) (small : (i : ℕ) → i < n → (shown i).multiplier < 2 ^ 32) where

@@ -10,7 +10,7 @@ use Rattle.integers.proofs.Laws.Truth.{&&_left}
 use Rattle.training_file.specs.declared.refusal.Refusal.{Refusal}
 use Rattle.training_file.specs.declared.parameters.Parameters.{Parameters}
 use Rattle.training_file.specs.declared.item.Item.{Item}
-use Rattle.training_file.specs.Refusal.{refusal}
+use Rattle.training_file.specs.declared.refusal.Refusal.TheVariants as refusal
 use Rattle.training_file.specs.Parameters.{records_most}
 use Rattle.training_file.specs.Item.{both_labels}
 use Rattle.reading.specs.Reading.{Reading, accepted, reading}
@@ -23,20 +23,9 @@ use Rattle.pooling.specs.Pooling.{alike, pool_items, pooling, write_left}
 
 -- ---- what is left of both files
 
-module _ (room : ℕ) (p : Parameters) (left : List Item) where
-  pub left_5 : both_labels left ≡ false → write_left room p left ≡ refused (refusal 5)
-  left_5 e = rw e
-
-  module _ (labels : both_labels left ≡ true) where
-    pub left_15 : leb (length left) records_most ≡ false → write_left room p left ≡ refused (refusal 15)
-    left_15 e = rw (labels, e)
-
-    module _ (most : leb (length left) records_most ≡ true) where
-      pub left_10 : file_fits (length left) room ≡ false → write_left room p left ≡ refused (refusal 10)
-      left_10 e = rw (labels, most, e)
-
-      pub left_all : file_fits (length left) room ≡ true → write_left room p left ≡ wrote (file_of p left)
-      left_all e = rw (labels, most, e)
+pub left_all : (room : ℕ) (p : Parameters) (left : List Item) → both_labels left ≡ true → leb (length left) records_most ≡ true
+    → file_fits (length left) room ≡ true → write_left room p left ≡ wrote (file_of p left)
+left_all room p left labels most e = rw (labels, most, e)
 
 -- ---- both files
 
@@ -62,9 +51,9 @@ module _ (older newer : List ℕ) (room : ℕ) where
       unfolding pooling
       pools_items = λ j. by_readings room (a j) (b j)
 
-      pub pools_14 : alike p q ≡ false → pooling older newer room ≡ refused (refusal 14)
-      pools_14 e = pools_items ∙ (λ j. unless 14 (e j) (write_left room q (last_only q.used (items ++ more))))
+      pub pools_14 : alike p q ≡ false → pooling older newer room ≡ refused refusal.Unlike
+      pools_14 e = pools_items ∙ (λ j. unless refusal.Unlike (e j) (write_left room q (last_only q.used (items ++ more))))
 
       module _ (c : alike p q ≡ true) (left : List Item) (l : last_only q.used (items ++ more) ≡ left) where
         pub pools_left : pooling older newer room ≡ write_left room q left
-        pools_left = pools_items ∙ (λ j. unless 14 (c j) (write_left room q (l j)))
+        pools_left = pools_items ∙ (λ j. unless refusal.Unlike (c j) (write_left room q (l j)))

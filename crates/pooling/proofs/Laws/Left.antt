@@ -1,16 +1,21 @@
 -- Laws of the items left: labels counted, and records put one after the other. Assumes nothing.
 use mathlib.Core.Path.{◌≡◌, refl, sym, ◌∙◌, ap}
+use mathlib.Core.Bool.{Bool, true, false, cond}
+use borrow.Author.Tests.{ltb-false, ltb-true}
+use Rattle.std.proofs.Common.{filter, nat_lt}
 use mathlib.Core.List.{List, [], ◌∷◌, ◌++◌, append_assoc, append-nil, map-append}
 use Prim.Native.Nat.{ℕ, zero, suc, ◌+◌, ◌≤◌, ◌<◌}
 use native.Mathlib.Numerals.{add-one}
 use native.Mathlib.Omega.{arith}
-use lib.ListN.{length, get_or, take, drop, drop_of_length-le, length-append, length-map}
-use lib.Seq.{drop-cons, length-take-le, split_at, take_all, take-suc}
+use lib.ListN.{length, get_or, take, drop, length-append, length-map}
+use lib.Seq.{length-take-le, split_at, take_all, take-suc}
 use Rattle.training_file.specs.declared.item.Label.{Label}
+use Rattle.training_file.specs.declared.item.Label.TheVariants.{LookedUp, PassedOver}
 use Rattle.training_file.specs.declared.item.Item.{Item}
 use Rattle.training_file.specs.Layout.{feature_count}
-use Rattle.training_file.specs.Item.{item_in, labelled, same}
+use Rattle.training_file.specs.Item.{both_labels, item_in, labelled, same}
 use Rattle.training_file.specs.Record.{item_at, label_at}
+use Rattle.training_file.proofs.Laws.Item.{labels_all, labels_both, labels_none, labels_sum}
 use Rattle.training_file.proofs.Laws.Record.{features_sixteen}
 use Rattle.written_file.specs.File.{following, item_record, item_records, records_to}
 use Rattle.last_items.specs.Kept.{AllStored, items_at}
@@ -19,23 +24,42 @@ use Rattle.last_items.proofs.Laws.Last.{each_append}
 
 -- ---- labels counted
 
--- one record is counted
-pub labelled_on : (label : Label) (file numbers : List ℕ) (k count : ℕ) → k < length numbers
-    → count + labelled label (items_at file (drop k numbers))
-    ≡ (count + same label (label_at file (get_or numbers k 0))) + labelled label (items_at file (drop (k + 1) numbers))
-unfolding labelled
-labelled_on label file numbers k count h =
-    ap (λ (l : List ℕ). count + labelled label (items_at file l)) (drop-cons numbers k 0 h ∙ ap (λ (j : ℕ). get_or numbers k 0 ∷ drop j numbers) (sym (add-one k)))
-    ∙ omega arith
+-- whether a label is that of items looked up
+abbrev pub looked_up : Label → Bool
+looked_up LookedUp = true
+looked_up PassedOver = false
 
-pub labelled_all : (label : Label) (file numbers : List ℕ) (k count : ℕ) → length numbers ≤ k → count + labelled label (items_at file (drop k numbers)) ≡ count
+-- one more record is counted, or is not
+one_more : (label : Label) (r n : ℕ) (rest : List ℕ) → length rest ≡ n → length (cond (looked_up label) (r ∷ rest) rest) ≡ same LookedUp label + n
+one_more LookedUp r n rest e = omega arith
+one_more PassedOver r n rest e = omega arith
+
+-- so those of items looked up are counted
+pub counted : (file numbers : List ℕ) → length (filter (λ r. looked_up (label_at file r)) numbers) ≡ labelled LookedUp (items_at file numbers)
 unfolding labelled
-labelled_all label file numbers k count h = ap (λ (l : List ℕ). count + labelled label (items_at file l)) (drop_of_length-le numbers {i = k} h) ∙ omega arith
+counted file [] = refl
+counted file (r ∷ numbers) = one_more (label_at file r) r _ _ (counted file numbers)
 
 pub labelled-append : (label : Label) (xs ys : List Item) → labelled label (xs ++ ys) ≡ labelled label xs + labelled label ys
 unfolding labelled
 labelled-append label [] ys = omega arith
 labelled-append label (x ∷ xs) ys = let rest = labelled-append label xs ys in omega arith
+
+-- both labels have an item where neither none nor all are looked up
+module _ (items : List Item) (count n : ℕ) (counted_is : count ≡ labelled LookedUp items) (all : n ≡ length items) where
+  pub some_told : 0 < count → nat_lt count n ≡ both_labels items
+  some_told some = by (nat_lt count n) refl
+    where
+      by : (t : Bool) → nat_lt count n ≡ t → t ≡ both_labels items
+      by true e = let less = ltb-true count n e in sym (labels_both items (λ z. omega arith) (λ z. omega arith))
+      by false e = let more = ltb-false count n e in sym (labels_all items (omega (arith, labels_sum items)))
+
+  pub none_told : count ≤ 0 → nat_lt 0 count ≡ both_labels items
+  none_told none = by (nat_lt 0 count) refl
+    where
+      by : (t : Bool) → nat_lt 0 count ≡ t → t ≡ both_labels items
+      by true e = let some = ltb-true 0 count e in absurd (omega arith)
+      by false e = sym (labels_none items (omega arith))
 
 -- ---- the items of records that stand in a file
 
@@ -87,13 +111,13 @@ module _ (n : ℕ) where
   -- one more record of a file
   module _ (before : ℕ) (file numbers : List ℕ) (k : ℕ) (inside : k < length numbers) where
     abbrev pub record_of : List ℕ
-    record_of = item_record (following n (before + (k + 1))) (item_at file (get_or numbers k 0))
+    record_of = item_record (following n (before + k + 1)) (item_at file (get_or numbers k 0))
 
     taken : before + length (items_at file (take k numbers)) ≡ before + k
     taken = let e = length-map (take k numbers) (item_at file) in let l = length-take-le k numbers (omega arith) in omega arith
 
-    following_is : following n (suc (before + k)) ≡ following n (before + (k + 1))
-    following_is = ap (following n) (let e : suc (before + k) ≡ before + (k + 1) = omega arith in e)
+    following_is : following n (suc (before + k)) ≡ following n (before + k + 1)
+    following_is = ap (following n) (let e : suc (before + k) ≡ before + k + 1 = omega arith in e)
 
     pub records_split : records_from n before (items_at file numbers)
         ≡ records_from n before (items_at file (take k numbers)) ++ (record_of ++ records_from n (suc (before + k)) (items_at file (drop (suc k) numbers)))

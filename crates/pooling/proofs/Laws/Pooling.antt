@@ -12,6 +12,7 @@ use Rattle.integers.proofs.Laws.Truth.{&&_true}
 use Rattle.training_file.specs.declared.item.Item.{Item}
 use Rattle.training_file.specs.declared.parameters.Parameters.{Parameters}
 use Rattle.training_file.specs.declared.refusal.Refusal.{Refusal}
+use Rattle.training_file.specs.declared.refusal.Refusal.TheVariants as refusal
 use Rattle.training_file.specs.Refusal.{OneOf, pooling_refuses, reading_refuses}
 use Rattle.training_file.specs.Layout.{feature_count}
 use Rattle.training_file.specs.Parameters.{byte_of_kernel, records_most}
@@ -42,9 +43,9 @@ use Rattle.pooling.proofs.Laws.Call.{alike_used, left_all, pools_left}
 left_refuse : (room : ℕ) (q : Parameters) (left : List Item) → Refuses pooling_refuses (write_left room q left)
 left_refuse room q left =
     let tested = unless_refuses pooling_refuses in
-    tested 5 (both_labels left) _ refl (λ e. omega arith) (λ e. omega arith)
-    (tested 15 (leb (length left) records_most) _ refl (λ e. omega arith) (λ e. omega arith)
-    (tested 10 (file_fits (length left) room) (wrote (file_of q left)) refl (λ e. omega arith) (λ e. omega arith) tt))
+    tested refusal.Labels (both_labels left) _ refl (λ e. omega arith) (λ e. omega arith)
+    (tested refusal.Pool (leb (length left) records_most) _ refl (λ e. omega arith) (λ e. omega arith)
+    (tested refusal.Output (file_fits (length left) room) (wrote (file_of q left)) refl (λ e. omega arith) (λ e. omega arith) tt))
 
 file_refuses : (file : List ℕ) (why : Refusal) → reading file ≡ reader.refused why → OneOf pooling_refuses why
 unfolding every
@@ -59,7 +60,7 @@ pooling_refuses_lem older newer room =
     file_either _ _ newer (λ read w. Refuses pooling_refuses w) (file_refuses newer)
     (λ q others more b.
     let left = last_only q.used (items ++ more) in
-    unless_refuses pooling_refuses 14 (alike p q) (write_left room q left) refl (λ e. omega arith) (λ e. omega arith) (left_refuse room q left)))
+    unless_refuses pooling_refuses refusal.Unlike (alike p q) (write_left room q left) refl (λ e. omega arith) (λ e. omega arith) (left_refuse room q left)))
 
 -- ---- "the result is written as in (b)"
 
@@ -101,7 +102,7 @@ module _ (older newer : List ℕ)
   pub left_written : length left ≤ records_most → (room : ℕ) → pooling older newer room ≡ writing q (item_rows left) room
   left_written most room =
       pools_left older newer room p order items a q others more b c left l
-      ∙ ap (λ t. unless 5 (both_labels left) (unless 15 t (write_into room q left))) (le-leb (length left) records_most most)
+      ∙ ap (λ t. unless refusal.Labels (both_labels left) (unless refusal.Pool t (write_into room q left))) (le-leb (length left) records_most most)
       ∙ sym (rows_tested q left room added.parameters most left_sixteen left_features)
 
 -- ---- what is known of a file that the call has written
@@ -130,10 +131,10 @@ pooled older newer room file =
     file_either _ _ newer (λ read w. w ≡ wrote file → Pooled older newer file) (λ why b e. let z : ◌≡◌ {A = ℕ} 0 1 = cc in absurd (omega arith))
     (λ q others more b e.
     let left = last_only q.used (items ++ more) in
-    let c = unless_wrote 14 (alike p q) (write_left room q left) file e in
-    let labels = unless_wrote 5 (both_labels left) _ file c.1 in
-    let most = unless_wrote 15 (leb (length left) records_most) _ file labels.1 in
-    let fits = unless_wrote 10 (file_fits (length left) room) (wrote (file_of q left)) file most.1 in
+    let c = unless_wrote refusal.Unlike (alike p q) (write_left room q left) file e in
+    let labels = unless_wrote refusal.Labels (both_labels left) _ file c.1 in
+    let most = unless_wrote refusal.Pool (leb (length left) records_most) _ file labels.1 in
+    let fits = unless_wrote refusal.Output (file_fits (length left) room) (wrote (file_of q left)) file most.1 in
     let is : file ≡ file_of q left = cc fits.1 in
     let sound = left_writable older newer p order items a q others more b c.0 left refl labels.0 (leb-true (length left) records_most most.0) in
     record {

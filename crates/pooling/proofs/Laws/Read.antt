@@ -3,7 +3,8 @@
 use mathlib.Core.Path.{◌≡◌, refl, sym, ◌∙◌, ap, subst}
 use mathlib.Core.Bool.{true}
 use mathlib.Core.List.{List, ◌++◌}
-use Prim.Native.Nat.{ℕ, ◌-◌, ◌≤◌, ◌<◌}
+use Rattle.std.proofs.Common.{Ok, Err}
+use Prim.Native.Nat.{ℕ, ◌≤◌, ◌<◌}
 use native.Mathlib.Omega.{arith}
 use lib.IntN.{pos}
 use lib.ListN.{length, get_or, take, drop, length-append}
@@ -14,23 +15,20 @@ use Rattle.training_file.specs.declared.refusal.Refusal.{Refusal}
 use Rattle.training_file.specs.Layout.{feature_count}
 use Rattle.training_file.specs.Parameters.{records_most}
 use Rattle.training_file.specs.Item.{item_in}
-use Rattle.reading.specs.declared.reader.FileAnswer.{FileAnswer}
-use Rattle.reading.specs.declared.reader.FileAnswer.TheVariants as outcome
 use Rattle.reading.specs.Reading.{Reading, accepted, reading, refused}
-use Rattle.reading.specs.Calls.{file_answer, file_refusal, table_after}
+use Rattle.reading.specs.Calls.{file_answer, table_after}
 use Rattle.reading.proofs.Laws.Reading.{AcceptedFile, accepted_is}
 use Rattle.reading.proofs.Laws.Reading.Accepted.{accepted_ranges, item_features_past, items_counted, items_most, numbers_stored}
 use Rattle.last_items.specs.Last.{last_only}
 use Rattle.pooling.specs.Pooling.{alike}
 use Rattle.last_items.specs.Kept.{FewStored, items_at}
 use Rattle.last_items.proofs.Laws.Last.{each_append, sixteen_decide}
-use Rattle.last_items.proofs.Laws.Kept.{part_to}
 use Rattle.pooling.proofs.Laws.Call.{alike_used}
 
 -- a file that is refused
-pub read_refused : (r : Reading) {answer : FileAnswer} {why met : Refusal} → answer ≡ file_answer r → answer ≡ outcome.Refused why → met ≡ file_refusal answer → r ≡ refused met
-read_refused (refused why) a e m = ap refused (sym (m ∙ ap file_refusal a))
-read_refused (accepted p order items) a e m = let z : ◌≡◌ {A = ℕ} 0 1 = cc in absurd (omega arith)
+pub read_refused : (r : Reading) {why : Refusal} → Err why ≡ file_answer r → r ≡ refused why
+read_refused (refused why') {why = why} e = let same : why' ≡ why = cc in ap refused same
+read_refused (accepted p order items) e = cc
 
 -- one that is accepted, whose order is in a table
 pub record OrderIn (file : List ℕ) (p : Parameters) (count : ℕ) (table : List ℕ) : Type 0 where
@@ -38,25 +36,26 @@ pub record OrderIn (file : List ℕ) (p : Parameters) (count : ℕ) (table : Lis
   pub items : List Item
   pub read : reading file ≡ accepted p order items
   pub held : count ≤ length table
-  pub stored : FewStored file (take (count - 0) table)
-  pub items_are : items_at file (take (count - 0) table) ≡ items
+  pub stored : FewStored file (take count table)
+  pub items_are : items_at file (take count table) ≡ items
 
-pub order_in_lem : (file before : List ℕ) {answer : FileAnswer} {p : Parameters} {count : ℕ} {table : List ℕ} → answer ≡ file_answer (reading file)
-    → table ≡ table_after (reading file) before → length before ≡ records_most → answer ≡ outcome.Accepted p count → OrderIn file p count table
-order_in_lem file before {answer = answer} {p = p} {count = count} {table = table} a t long e = by (reading file) refl a t
+pub order_in_lem : (file before : List ℕ) {p : Parameters} {count : ℕ} {table : List ℕ} → length before ≡ records_most
+    → Ok (p, count) ≡ file_answer (reading file) → table ≡ table_after (reading file) before → OrderIn file p count table
+order_in_lem file before {p = p} {count = count} {table = table} long a t = by (reading file) refl a t
   where
-    by : (r : Reading) → reading file ≡ r → answer ≡ file_answer r → table ≡ table_after r before → OrderIn file p count table
-    by (refused why) f a t = let z : ◌≡◌ {A = ℕ} 0 1 = cc in absurd (omega arith)
+    by : (r : Reading) → reading file ≡ r → Ok (p, count) ≡ file_answer r → table ≡ table_after r before → OrderIn file p count table
+    by (refused why) f a t = cc
     by (accepted q order items) f a t =
-        let same-p : q ≡ p = cc in
-        let same_count : length order ≡ count = cc in
+        let same : ◌≡◌ {A = Parameters × ℕ} (q, length order) (p, count) = cc in
+        let same-p : q ≡ p = ap (λ pair. pair.0) same in
+        let same_count : length order ≡ count = ap (λ pair. pair.1) same in
         let is = accepted_is file q order items f in
         let most = items_most file q order items is in
         let counted = items_counted file q order items is in
         let whole : take (length before) order ≡ order = take_all (length before) order (omega arith) in
         let is-table : table ≡ order ++ drop (length order) before = t ∙ ap (λ (l : List ℕ). l ++ drop (length order) before) whole in
-        let numbers : take (count - 0) table ≡ order
-        = part_to table count ∙ ap (λ (k : ℕ). take k table) (sym same_count) ∙ ap (take (length order)) is-table ∙ take-append_seam order (drop (length order) before) in
+        let numbers : take count table ≡ order
+        = ap (λ (k : ℕ). take k table) (sym same_count) ∙ ap (take (length order)) is-table ∙ take-append_seam order (drop (length order) before) in
         record {
           order = order;
           items = items;
@@ -87,7 +86,7 @@ module _ (older : List ℕ) (p : Parameters) (count : ℕ) (table : List ℕ) (l
       (λ k h i m. item_features_past newer q l'.order l'.items is' k (omega (arith, items_counted newer q l'.order l'.items is')) i m)
 
   pub order_in_last : alike p q ≡ true
-      → last_only q.used (l.items ++ l'.items) ≡ last_only feature_count (items_at older (take (count - 0) table) ++ items_at newer (take (count' - 0) table'))
+      → last_only q.used (l.items ++ l'.items) ≡ last_only feature_count (items_at older (take count table) ++ items_at newer (take count' table'))
   order_in_last same =
       sym (sixteen_decide q.used (l.items ++ l'.items) (accepted_ranges newer q l'.order l'.items is').used_greatest (λ k i h m. past same k h i m))
       ∙ (λ j. last_only feature_count (sym l.items_are j ++ sym l'.items_are j))

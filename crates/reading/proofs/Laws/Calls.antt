@@ -3,6 +3,7 @@ use mathlib.Core.Path.{◌≡◌, refl, sym, ap, subst, ◌∙◌}
 use mathlib.Core.List.{List}
 use Prim.Native.Nat.{ℕ, ◌≤◌, ◌<◌}
 use native.Mathlib.Omega.{arith}
+use Rattle.std.proofs.Common.{Result, Ok, Err}
 use lib.ListN.{length, length-append, get_or-append}
 use lib.Seq.{take_all}
 use Rattle.training_file.specs.declared.refusal.Refusal.{Refusal}
@@ -11,10 +12,8 @@ use Rattle.training_file.specs.declared.item.Item.{Item}
 use Rattle.training_file.proofs.Laws.Header.{allowed_whole}
 use Rattle.chain.specs.Walk.{ends}
 use Rattle.chain.specs.Answers.{Chained, order_of, records_of, table_with}
-use Rattle.reading.specs.declared.reader.FileAnswer.{FileAnswer}
-use Rattle.reading.specs.declared.reader.FileAnswer.TheVariants as outcome
 use Rattle.reading.specs.Reading.{Reading, accepted, reading, refused}
-use Rattle.reading.specs.Calls.{Tabled, items_in, order_in, file_answer, file_first, file_refusal, table_after}
+use Rattle.reading.specs.Calls.{Tabled, items_in, order_in, file_answer, file_first, table_after}
 use Rattle.reading.proofs.Laws.Reading.{AcceptedFile, accepted_is}
 
 module _ (file : List ℕ) (p : Parameters) (rs : List ℕ) (items : List Item) (a : AcceptedFile file p rs items) where
@@ -30,25 +29,17 @@ module _ (file : List ℕ) (p : Parameters) (rs : List ℕ) (items : List Item) 
       }
 
 module _ (file table : List ℕ) where
-  -- a refusal leaves the table as it was
-  pub table_refused : (why : Refusal) → file_answer (reading file) ≡ outcome.Refused why → table ≡ table_after (reading file) table
-  table_refused why e = go (reading file) e
-    where
-      go : (r : Reading) → file_answer r ≡ outcome.Refused why → table ≡ table_after r table
-      go (refused why') q = refl
-      go (accepted p rs items) q = let z : ◌≡◌ {A = ℕ} 0 1 = cc in absurd (omega arith)
-
   -- otherwise the chain ends with as many records as were counted, and the table has the order
-  pub table_accepted : (p : Parameters) (n : ℕ) → file_answer (reading file) ≡ outcome.Accepted p n
+  pub table_accepted : (p : Parameters) (n : ℕ) → file_answer (reading file) ≡ Ok (p, n)
       → (Chained file n) × (table_with (order_of file) table ≡ table_after (reading file) table)
   table_accepted p n e = go (reading file) refl e
     where
-      go : (r : Reading) → reading file ≡ r → file_answer r ≡ outcome.Accepted p n
+      go : (r : Reading) → reading file ≡ r → file_answer r ≡ Ok (p, n)
           → (Chained file n) × (table_with (order_of file) table ≡ table_after r table)
       go (refused why) f q = let z : ◌≡◌ {A = ℕ} 0 1 = cc in absurd (omega arith)
       go (accepted p' rs items) f q =
           let a = accepted_is file p' rs items f in
-          let n-is : length rs ≡ n = cc in (
+          let same : ◌≡◌ {A = Parameters × ℕ} (p', length rs) (p, n) = cc in let n-is : length rs ≡ n = λ i. (same i).1 in (
             subst (Chained file) n-is (accepted_chained file p' rs items a),
             ap (λ (order : List ℕ). table_with order table) (accepted_order file p' rs items a),
           )
@@ -56,16 +47,16 @@ module _ (file table : List ℕ) where
 -- ---- a call that reads its file first
 module _ {A : Type 0} (refusal : Refusal → A) (call : Parameters → List ℕ → List Item → A) where
   -- an answer that refuses the file ends the call with its refusal
-  pub file_refused : (r : Reading) {answer : FileAnswer} {why met : Refusal} → answer ≡ file_answer r → answer ≡ outcome.Refused why → met ≡ file_refusal answer
-      → refusal met ≡ file_first refusal call r
-  file_refused (refused why) a e m = ap refusal (m ∙ ap file_refusal a)
-  file_refused (accepted p order items) a e m = let z : ◌≡◌ {A = ℕ} 0 1 = cc in absurd (omega arith)
+  pub file_refused : (r : Reading) {answer : Result (Parameters × ℕ) Refusal} {why : Refusal} → answer ≡ file_answer r → answer ≡ Err why
+      → refusal why ≡ file_first refusal call r
+  file_refused (refused why') {why = why} a e = let q : why ≡ why' = cc in ap refusal q
+  file_refused (accepted p order items) a e = let z : ◌≡◌ {A = ℕ} 0 1 = cc in absurd (omega arith)
 
   -- one that accepts it leaves the call to what was read
-  pub file_accepted : (r : Reading) {answer : FileAnswer} {p : Parameters} {n : ℕ} → answer ≡ file_answer r → answer ≡ outcome.Accepted p n
+  pub file_accepted : (r : Reading) {answer : Result (Parameters × ℕ) Refusal} {p : Parameters} {n : ℕ} → answer ≡ file_answer r → answer ≡ Ok (p, n)
       → call p (order_in r) (items_in r) ≡ file_first refusal call r
   file_accepted (refused why) a e = let z : ◌≡◌ {A = ℕ} 0 1 = cc in absurd (omega arith)
-  file_accepted (accepted p' order items) {p = p} a e = let q : p ≡ p' = cc in ap (λ x. call x order items) q
+  file_accepted (accepted p' order items) {p = p} {n = n} a e = let q : ◌≡◌ {A = Parameters × ℕ} (p, n) (p', length order) = cc in λ i. call (q i).0 order items
 
   -- what holds of each refusal of the file and of each call on an accepted one holds of the call
   pub file_either : (file : List ℕ) (Q : Reading → A → Type 0)

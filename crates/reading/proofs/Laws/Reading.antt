@@ -9,7 +9,8 @@ use Prim.Native.Nat.{ℕ}
 use native.Mathlib.Omega.{arith}
 use Rattle.training_file.specs.declared.parameters.Parameters.{Parameters}
 use Rattle.training_file.specs.declared.item.Item.{Item}
-use Rattle.training_file.specs.Refusal.{refusal, refusal_at}
+use Rattle.training_file.specs.declared.refusal.Refusal.TheVariants as refusal
+use Rattle.training_file.specs.Refusal.{refusal_at}
 use Rattle.training_file.specs.Item.{both_labels}
 use Rattle.training_file.specs.Record.{item_at, record_allowed, every}
 use Rattle.training_file.specs.Header.{header_allowed, length_allowed, parameters_of}
@@ -20,12 +21,12 @@ use Rattle.reading.specs.Reading.{accepted, read_chain, reading, refused, unless
 -- ---- the reading by stages
 
 module _ (file : List ℕ) where
-  pub reads_1 : length_allowed file ≡ false → reading file ≡ refused (refusal 1)
+  pub reads_1 : length_allowed file ≡ false → reading file ≡ refused refusal.FileLength
   unfolding reading
   reads_1 l = rw l
 
   module _ (l : length_allowed file ≡ true) where
-    pub reads_2 : header_allowed file ≡ false → reading file ≡ refused (refusal 2)
+    pub reads_2 : header_allowed file ≡ false → reading file ≡ refused refusal.Header
     unfolding reading
     reads_2 h = rw (l, h)
 
@@ -39,11 +40,11 @@ module _ (file : List ℕ) where
         unfolding reading
         reads_chain = rw (l, h) (ap (read_chain file) w)
 
-        pub reads_4 : every (record_allowed (parameters_of file).used file) rs ≡ false → reading file ≡ refused (refusal 4)
+        pub reads_4 : every (record_allowed (parameters_of file).used file) rs ≡ false → reading file ≡ refused refusal.Record
         reads_4 e = reads_chain ∙ (rw e)
 
         module _ (e : every (record_allowed (parameters_of file).used file) rs ≡ true) where
-          pub reads_5 : both_labels (map (item_at file) rs) ≡ false → reading file ≡ refused (refusal 5)
+          pub reads_5 : both_labels (map (item_at file) rs) ≡ false → reading file ≡ refused refusal.Labels
           reads_5 b = reads_chain ∙ (rw (e, b))
 
           pub reads_all : both_labels (map (item_at file) rs) ≡ true
@@ -66,7 +67,7 @@ module _ (file : List ℕ) (p : Parameters) (rs : List ℕ) (items : List Item) 
   past_labels : (qs : List ℕ) (e b : Bool)
       → length_allowed file ≡ true → header_allowed file ≡ true → chain_of file ≡ ends qs
       → every (record_allowed (parameters_of file).used file) qs ≡ e → both_labels (map (item_at file) qs) ≡ b
-      → unless 4 e (unless 5 b (accepted (parameters_of file) qs (map (item_at file) qs))) ≡ accepted p rs items
+      → unless refusal.Record e (unless refusal.Labels b (accepted (parameters_of file) qs (map (item_at file) qs))) ≡ accepted p rs items
       → AcceptedFile file p rs items
   past_labels qs false b l h w e t q = let z : ◌≡◌ {A = ℕ} 0 1 = cc in absurd (omega arith)
   past_labels qs true false l h w e t q = let z : ◌≡◌ {A = ℕ} 0 1 = cc in absurd (omega arith)
@@ -90,7 +91,7 @@ module _ (file : List ℕ) (p : Parameters) (rs : List ℕ) (items : List Item) 
   past_chain (ends qs) l h w q = past_labels qs _ _ l h w refl refl q
 
   past_header : (a b : Bool) → length_allowed file ≡ a → header_allowed file ≡ b
-      → unless 1 a (unless 2 b (read_chain file (chain_of file))) ≡ accepted p rs items → AcceptedFile file p rs items
+      → unless refusal.FileLength a (unless refusal.Header b (read_chain file (chain_of file))) ≡ accepted p rs items → AcceptedFile file p rs items
   past_header false b l h q = let z : ◌≡◌ {A = ℕ} 0 1 = cc in absurd (omega arith)
   past_header true false l h q = let z : ◌≡◌ {A = ℕ} 0 1 = cc in absurd (omega arith)
   past_header true true l h q = past_chain (chain_of file) l h refl q

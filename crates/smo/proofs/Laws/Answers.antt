@@ -16,23 +16,23 @@ use Rattle.working_pair.specs.Pair.{pair_of}
 use Rattle.smo_step.specs.Update.{stepped}
 use Rattle.smo.specs.declared.ending.Ending.{Ending}
 use Rattle.smo.specs.declared.ending.Ending.TheVariants.{Spent}
-use Rattle.smo.specs.declared.run.Decision.TheVariants.{Ends, Moves}
+use Rattle.std.specs.declared.ops.ControlFlow.TheVariants.{Break, Continue}
 use Rattle.smo.specs.Run.{Outcome, decided, decision, turn, turn_by, stops, continues, run}
 use Rattle.smo.specs.Run.Meaning.{more_steps}
 use Rattle.smo.proofs.Laws.Run.{run_ends, run_spent, run_goes_on}
 
 module _ (P : Problem) (t : ℕ) (a : List ℕ) where
-  pub decision_ends : {e : Ending} → decision P t a ≡ Ends e → turn P t a ≡ stops e
+  pub decision_ends : {e : Ending} → decision P t a ≡ Break e → turn P t a ≡ stops e
   unfolding turn
   decision_ends h = ap (turn_by P a) h
 
-  pub decision_moves : {i j : ℕ} → decision P t a ≡ Moves i j → (turn P t a ≡ continues (stepped P a i j)) × Candidate P a i j
+  pub decision_moves : {i j : ℕ} → decision P t a ≡ Continue (i, j) → (turn P t a ≡ continues (stepped P a i j)) × Candidate P a i j
   unfolding turn
   decision_moves {i} {j} h = (ap (turn_by P a) h, by (le_z (b_low P (at a)) (b_up P (at a) +ℤ pos (2 * t))) (working_pair P a) refl h)
     where
-      by : (x : Bool) (w : Option (ℕ × ℕ)) → working_pair P a ≡ w → decided x (pair_of w) ≡ Moves i j → Candidate P a i j
-      by true w f q = let z : ◌≡◌ {A = ℕ} 0 1 = cc in absurd (omega arith)
-      by false none f q = let z : ◌≡◌ {A = ℕ} 0 1 = cc in absurd (omega arith)
+      by : (x : Bool) (w : Option (ℕ × ℕ)) → working_pair P a ≡ w → decided x (pair_of w) ≡ Continue (i, j) → Candidate P a i j
+      by true w f q = cc
+      by false none f q = cc
       by false (some ij) f q = let at_i : ij.0 ≡ i = cc in let at_j : ij.1 ≡ j = cc in working_pair_sound P a (f ∙ (λ k. some (at_i k, at_j k)))
 
 -- ---- a loop that has taken k of its steps and is at a, where o is the outcome that it is to come to

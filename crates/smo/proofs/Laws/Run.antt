@@ -29,16 +29,6 @@ use Rattle.smo.specs.declared.ending.Ending.TheVariants.{Converged, Stuck, Spent
 use Rattle.smo.specs.Run.{Turn, stops, continues, turn, Outcome, one_step_more, run, run_from_zeros, zeros}
 use Rattle.smo.specs.Run.Meaning.{GapPasses, OutcomeGapPasses, OutcomeMeans, Sound, Steps, no_step, step, more_steps}
 
--- ---- no two endings are one
-stuck_converged : Stuck ≡ Converged → ⊥
-stuck_converged q = let z : ◌≡◌ {A = ℕ} 0 1 = cc in omega arith
-
-spent_converged : Spent ≡ Converged → ⊥
-spent_converged q = let z : ◌≡◌ {A = ℕ} 0 1 = cc in omega arith
-
-spent_stuck : Spent ≡ Stuck → ⊥
-spent_stuck q = let z : ◌≡◌ {A = ℕ} 0 1 = cc in omega arith
-
 -- ---- the gap
 -- document 01's test for convergence is one of the gap
 module _ (t : ℕ) (lower upper : ℤ) where
@@ -261,8 +251,8 @@ module _ (P : Problem) (t : ℕ) where
         where
           by_ending : (e : Ending) → OutcomeMeans P t limit (run P t limit a) e → (e ≡ Converged) ↔ (b_low P (at left) ≤ℤ (b_up P (at left) +ℤ pos (2 * t)))
           by_ending Converged m = (λ q. (gap_within t (b_low P (at left)) (b_up P (at left))).0 m, λ q. refl)
-          by_ending Stuck m = (λ q. absurd (stuck_converged q), λ q. clash_ℤ ((gap_passes t (b_low P (at left)) (b_up P (at left))).0 m.0) q)
-          by_ending Spent m = (λ q. absurd (spent_converged q), λ q. clash_ℤ ((gap_passes t (b_low P (at left)) (b_up P (at left))).0 m.1) q)
+          by_ending Stuck m = (λ q. cc, λ q. clash_ℤ ((gap_passes t (b_low P (at left)) (b_up P (at left))).0 m.0) q)
+          by_ending Spent m = (λ q. cc, λ q. clash_ℤ ((gap_passes t (b_low P (at left)) (b_up P (at left))).0 m.1) q)
 
       -- Demand 3: "Training ends stuck exactly when, at the multipliers that it leaves, the gap passes twice the tolerance and no move
       -- of two multipliers on the grid lowers the objective."
@@ -270,17 +260,17 @@ module _ (P : Problem) (t : ℕ) where
       stuck_ending_exactly = by_ending (run P t limit a).ending run_means
         where
           by_ending : (e : Ending) → OutcomeMeans P t limit (run P t limit a) e → (e ≡ Stuck) ↔ (OutcomeGapPasses P t (run P t limit a) × NoMoveLowers P (at left))
-          by_ending Converged m = (λ q. absurd (stuck_converged (sym q)), λ q. absurd (omega (arith, q.0)))
+          by_ending Converged m = (λ q. cc, λ q. absurd (omega (arith, q.0)))
           by_ending Stuck m = (λ q. m, λ q. refl)
-          by_ending Spent m = (λ q. absurd (spent_stuck q), λ q. absurd (candidate_lowers P gram left long_left run_feasible m.4 q.1))
+          by_ending Spent m = (λ q. cc, λ q. absurd (candidate_lowers P gram left long_left run_feasible m.4 q.1))
 
       -- the limit ended the run exactly when the gap passes and some pair moves
       pub spent_exactly : ((run P t limit a).ending ≡ Spent) ↔ (OutcomeGapPasses P t (run P t limit a) × (i : ℕ) × (j : ℕ) × Candidate P (run P t limit a).multipliers i j)
       spent_exactly = by_ending (run P t limit a).ending run_means
         where
           by_ending : (e : Ending) → OutcomeMeans P t limit (run P t limit a) e → (e ≡ Spent) ↔ (OutcomeGapPasses P t (run P t limit a) × (i : ℕ) × (j : ℕ) × Candidate P left i j)
-          by_ending Converged m = (λ q. absurd (spent_converged (sym q)), λ q. absurd (omega (arith, q.0)))
-          by_ending Stuck m = (λ q. absurd (spent_stuck (sym q)), λ q. absurd (candidate_lowers P gram left long_left run_feasible q.3 m.1))
+          by_ending Converged m = (λ q. cc, λ q. absurd (omega (arith, q.0)))
+          by_ending Stuck m = (λ q. cc, λ q. absurd (candidate_lowers P gram left long_left run_feasible q.3 m.1))
           by_ending Spent m = (λ q. (m.1, m.2, m.3, m.4), λ q. refl)
 
       -- all of this

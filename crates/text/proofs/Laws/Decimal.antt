@@ -1,6 +1,6 @@
 -- Laws of decimal numbers. Assumes nothing.
 pub mod Meaning
-use mathlib.Core.Bool.{true, false, cond}
+use mathlib.Core.Bool.{cond}
 use mathlib.Core.Path.{◌≡◌, refl, sym, ◌∙◌, ap}
 use mathlib.Core.List.{[], ◌∷◌, ◌++◌}
 use Prim.Native.Nat.{ℕ, zero, suc, ◌+◌, ◌-◌, ◌/◌, ◌%◌, ◌^◌, ◌≤◌, ◌<◌}
@@ -8,11 +8,14 @@ use native.Mathlib.Decide.{dec_le}
 use native.Mathlib.Nat.{div-lt_iff_lt-mul, pow-suc}
 use native.Mathlib.Numerals.{add-one}
 use native.Mathlib.Omega.{arith}
-use borrow.Author.Tests.{le-leb, le-ltb, lt-ltb}
-use lib.IntN.{ℤ, pos, negsuc, nat_abs}
-use lib.Signed.{le_z, mag}
+use borrow.Author.Tests.{le-ltb, lt-ltb}
+use lib.IntN.{ℤ, pos, negsuc}
+use mir.Syntax.{w64}
+use mir.Facts.{to_z-of_z}
+use mir.Val.{SFits, to_z, of_z}
+use Rattle.std.specs.Fmt as std
+use Rattle.std.proofs.lemmas.Fmt.{decimal_by_steps}
 use lib.ListN.{length, length-append}
-use Rattle.integers.proofs.Laws.Truth.{clash}
 use Rattle.text.specs.Decimal.{digits, decimal, signed_decimal}
 
 -- a number of one digit, and one of more
@@ -44,16 +47,20 @@ pub decimal_more : (number : ℕ) → 10 ≤ number → number < 2 ^ 64 → deci
 unfolding decimal
 decimal_more number l h = digits_more 19 number l ∙ ap (λ d. d ++ ((48 + number % 10) ∷ [])) (sym (digits_places 18 (number / 10) (tenth_below 19 number (omega arith))))
 
--- ---- signs: what follows the sign of −1 − k is k + 1, and `mag` of it is k
-pub signed_minus : (z : ℤ) → le_z (pos 0) z ≡ false → signed_decimal z ≡ (45 ∷ []) ++ decimal (mag z + 1)
-unfolding signed_decimal
-signed_minus (pos n) h = clash (le-leb 0 n (omega arith)) h
-signed_minus (negsuc k) h = rw add-one
+-- what std prints of a number
+pub printed : (number : ℕ) → number < 2 ^ 64 → std.decimal number ≡ decimal number
+printed number h =
+    decimal_by_steps (λ n text. n < 2 ^ 64 → text ≡ decimal n) (λ n l _. sym (decimal_one n l))
+    (λ n text l tenth low. ap (λ d. d ++ ((48 + n % 10) ∷ [])) (tenth (omega arith)) ∙ sym (decimal_more n l low)) number h h
 
-pub signed_plus : (z : ℤ) → le_z (pos 0) z ≡ true → signed_decimal z ≡ decimal (nat_abs z)
+-- and of a signed one, which the code holds as an unsigned one
+printed_sign : (number : ℤ) → SFits w64 number → std.signed_decimal number ≡ signed_decimal number
 unfolding signed_decimal
-signed_plus (pos n) h = refl
-signed_plus (negsuc k) h = clash h refl
+printed_sign (pos n) h = printed n (omega (arith, h))
+printed_sign (negsuc n) h = ap (λ d. 45 ∷ d) (printed (suc n) (omega (arith, h)))
+
+pub printed_signed : (number : ℤ) → SFits w64 number → std.signed_decimal (to_z w64 (of_z w64 number)) ≡ signed_decimal number
+printed_signed number h = ap std.signed_decimal (to_z-of_z {w = w64} {z = number} h) ∙ printed_sign number h
 
 -- ---- lengths
 digits-length : (places number : ℕ) → length (digits places number) ≤ places

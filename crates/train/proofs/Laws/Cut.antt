@@ -8,7 +8,7 @@ use native.Mathlib.Decide.{dec_le}
 use native.Mathlib.Omega.{arith}
 use lib.ListN.{length, take}
 use lib.Seq.{length-take-le, take_all}
-use Rattle.training_file.specs.Refusal.{refusal}
+use Rattle.training_file.specs.declared.refusal.Refusal.TheVariants.{FileLength}
 use Rattle.training_file.specs.Header.{length_allowed}
 use Rattle.training_file.proofs.Laws.Header.{allowed_whole}
 use Rattle.reading.specs.Reading.{reading, refused}
@@ -20,10 +20,10 @@ use Rattle.train.specs.Cut.{SameWhenCut}
 abbrev enough : ℕ
 enough = 5153
 
-long_refused : (file : List ℕ) → enough ≤ length file → reading file ≡ refused (refusal 1)
+long_refused : (file : List ℕ) → enough ≤ length file → reading file ≡ refused FileLength
 long_refused file h = by (length_allowed file) refl
   where
-    by : (b : Bool) → length_allowed file ≡ b → reading file ≡ refused (refusal 1)
+    by : (b : Bool) → length_allowed file ≡ b → reading file ≡ refused FileLength
     by false e = reads_1 file e
     by true e = let held = allowed_whole file e in absurd (omega arith)
 

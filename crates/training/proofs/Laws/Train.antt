@@ -14,24 +14,20 @@ use Rattle.integers.specs.Written.{written}
 use Rattle.integers.proofs.Laws.Written.{written_at, written_cong, written_front}
 use Rattle.training_file.specs.declared.parameters.Parameters.{Parameters}
 use Rattle.training_file.specs.declared.item.Item.{Item}
-use Rattle.training_file.specs.Refusal.{refusal}
-use Rattle.reading.specs.declared.reader.FileAnswer.{FileAnswer}
-use Rattle.reading.specs.declared.reader.FileAnswer.TheVariants.{Accepted}
+use Rattle.training_file.specs.declared.refusal.Refusal.TheVariants as refusal
 use Rattle.reading.specs.Reading.{accepted, reading}
-use Rattle.reading.specs.Calls.{file_answer}
-use Rattle.reading.proofs.Laws.Calls.{file_accepted, file_either}
+use Rattle.reading.proofs.Laws.Calls.{file_either}
 use Rattle.dual_problem.specs.Problem.{Problem, Feasible, problem, gradient, at}
 use Rattle.dual_problem.proofs.Laws.Problem.{problem_gram}
 use Rattle.dual_problem.proofs.Laws.Problem.Same.{gradient_cong, b_up_cong, b_low_cong}
 use Rattle.dual_problem.proofs.Laws.Problem.Zeros.{zeros_feasible}
-use Rattle.dual_problem.proofs.Laws.FileProblem.Read.{answer_accepted, features_in_range, labels_present}
+use Rattle.dual_problem.proofs.Laws.FileProblem.Read.{features_in_range, labels_present}
 use Rattle.smo.specs.Run.{run, run_from_zeros, zeros}
 use Rattle.smo.specs.Run.Meaning.{Sound}
 use Rattle.smo.proofs.Laws.Run.{zeros-length, run_from_zeros-length, run_from_zeros_sound}
 use Rattle.smo.proofs.Laws.Run.Append.{run-append}
-use Rattle.smo.specs.Answers.{RunLeft, trained_of}
-use Rattle.training.specs.declared.train.Training.TheVariants.{Ended}
-use Rattle.training.specs.Train.{ResultQuality, TrainingLeft, TrainingQuality, ended_with, unchanged, train_file, train_from}
+use Rattle.smo.specs.Answers.{trained_of}
+use Rattle.training.specs.Train.{ResultQuality, TrainingLeft, TrainingQuality, ended_with, unchanged, train_file}
 
 module _ (P : Problem) (l : List ℕ) (long : P.count ≤ length l) where
   -- the list with 0 at the first n places
@@ -93,7 +89,7 @@ training_quality file a g =
   where
     by : (p : Parameters) (order : List ℕ) (items : List Item) → reading file ≡ accepted p order items
         → (x : Bool) → leb (length items) (length a) && leb (length items) (length g) ≡ x
-        → let left = cond x (ended_with (problem p items) (run_from_zeros (problem p items) p.tolerance p.budget) a g) (unchanged (refusal 6) a g) in
+        → let left = cond x (ended_with (problem p items) (run_from_zeros (problem p items) p.tolerance p.budget) a g) (unchanged refusal.ListLength a g) in
         TrainingQuality (accepted p order items) left.answer left.multipliers
     by p order items r false e = tt
     by p order items r true e =
@@ -107,17 +103,3 @@ training_quality file a g =
           means = s.means;
           stuck_exactly = s.stuck_exactly;
         })
-
--- ---- the call
--- what a run leaves, as the call answers it
-abbrev pub ended : RunLeft → TrainingLeft
-ended left = record { answer = Ended left.trained; multipliers = left.multipliers; gradient = left.gradient }
-
--- of a file that is accepted, the lengths of the lists decide
-pub train_lengths : (file a : List ℕ) (g : List ℤ) {answer : FileAnswer} {p : Parameters} {n : ℕ} {long : Bool}
-    → answer ≡ file_answer (reading file) → answer ≡ Accepted p n → leb n (length a) && leb n (length g) ≡ long
-    → cond long (ended (train_from file p n a g)) (unchanged (refusal 6) a g) ≡ train_file file a g
-train_lengths file a g {p = p} told e long =
-    let counted = sym (answer_accepted file told e).0 in
-    (λ k. cond ((sym long ∙ ap (λ m. leb m (length a) && leb m (length g)) counted) k) (ended (train_from file p (counted k) a g)) (unchanged (refusal 6) a g))
-    ∙ file_accepted _ _ (reading file) told e

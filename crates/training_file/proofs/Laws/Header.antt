@@ -6,7 +6,7 @@ use Prim.Native.Nat.{ℕ, ◌+◌, ◌*◌, ◌≤◌, ◌<◌}
 use native.Mathlib.Omega.{arith}
 use lib.Dec.{leb, eqb}
 use lib.ListN.{length}
-use borrow.Author.Tests.{le-leb, lt-leb, eq-eqb, ne_eqb, leb-true, eqb-true}
+use borrow.Author.Tests.{le-leb, lt-leb, eq-eqb, leb-true, eqb-true}
 use Rattle.integers.proofs.Laws.Truth.{&&_both, &&_left, &&_right}
 use Rattle.training_file.specs.Layout.{first_record, kernel_byte, records_stored, spare}
 use Rattle.training_file.specs.Parameters.{kernel_allowed, parameters_allowed, records_most}
@@ -15,17 +15,9 @@ use Rattle.training_file.specs.Header.{WholeFile, header_allowed, length_allowed
 module _ (file : List ℕ) where
   -- ---- refusal 1
 
-  pub short_refused : length file < 32 → length_allowed file ≡ false
-  unfolding length_allowed
-  short_refused h = rw (lt-leb 32 (length file) h)
-
   pub many_refused : records_most < records_stored file → length_allowed file ≡ false
   unfolding length_allowed
   many_refused h = rw (lt-leb (records_stored file) records_most h, and-false (leb 32 (length file)))
-
-  pub length_refused : (length file ≡ 32 + 20 * records_stored file → ⊥) → length_allowed file ≡ false
-  unfolding length_allowed
-  length_refused h = rw (ne_eqb (length file) (32 + 20 * records_stored file) h) (and-false (leb 32 (length file) && leb (records_stored file) records_most))
 
   pub length_allowed_lem : records_stored file ≤ records_most → length file ≡ 32 + 20 * records_stored file → length_allowed file ≡ true
   unfolding length_allowed
@@ -42,18 +34,6 @@ module _ (file : List ℕ) where
       }
 
   -- ---- refusal 2
-
-  pub first_refused : records_stored file < first_record file → header_allowed file ≡ false
-  unfolding header_allowed
-  first_refused h = rw (lt-leb (first_record file) (records_stored file) h)
-
-  pub spare_refused : (spare file ≡ 0 → ⊥) → header_allowed file ≡ false
-  unfolding header_allowed
-  spare_refused h = rw (ne_eqb (spare file) 0 h, and-false (leb (first_record file) (records_stored file)))
-
-  pub kernel_refused : kernel_allowed (kernel_byte file) ≡ false → header_allowed file ≡ false
-  unfolding header_allowed
-  kernel_refused h = rw (h, and-false (leb (first_record file) (records_stored file) && eqb (spare file) 0))
 
   pub parameters_decide : first_record file ≤ records_stored file → spare file ≡ 0 → kernel_allowed (kernel_byte file) ≡ true
       → header_allowed file ≡ parameters_allowed (parameters_of file)

@@ -1,6 +1,6 @@
 -- Laws of the parameters: when they are allowed, and the bytes of the kernels. Assumes nothing.
 use mathlib.Core.Path.{◌≡◌, refl, sym}
-use mathlib.Core.Bool.{Bool, true, false, ◌&&◌, and-false}
+use mathlib.Core.Bool.{Bool, true, false}
 use Prim.Native.Nat.{ℕ, ◌≤◌}
 use native.Mathlib.Omega.{arith}
 use lib.Dec.{leb, eqb}
@@ -20,30 +20,9 @@ module _ (least greatest value : ℕ) where
       let both = &&_both (leb least value) (leb value greatest) h in
       (leb-true least value both.0, leb-true value greatest both.1)
 
--- ---- the parameters: the first field beyond its range refuses them, and all within theirs are allowed
+-- ---- the parameters: where they are allowed, each field is within its range
 
 module _ (p : Parameters) where
-  pub used_refused : within 1 feature_count p.used ≡ false → parameters_allowed p ≡ false
-  unfolding parameters_allowed
-  used_refused h = rw h
-
-  pub grid_refused : within 1 grid_most p.grid ≡ false → parameters_allowed p ≡ false
-  unfolding parameters_allowed
-  grid_refused h = rw (h, and-false (within 1 feature_count p.used))
-
-  pub ceilings_refused : ceilings_allowed p.ceiling p.second_ceiling ≡ false → parameters_allowed p ≡ false
-  unfolding parameters_allowed
-  ceilings_refused h = rw (h, and-false (within 1 feature_count p.used && within 1 grid_most p.grid))
-
-  pub tolerance_refused : within 0 tolerance_most p.tolerance ≡ false → parameters_allowed p ≡ false
-  unfolding parameters_allowed
-  tolerance_refused h = rw (h, and-false (within 1 feature_count p.used && within 1 grid_most p.grid && ceilings_allowed p.ceiling p.second_ceiling))
-
-  module _ (u : within 1 feature_count p.used ≡ true) (g : within 1 grid_most p.grid ≡ true) (c : ceilings_allowed p.ceiling p.second_ceiling ≡ true) (t : within 0 tolerance_most p.tolerance ≡ true) where
-    pub budget_decides : parameters_allowed p ≡ within 0 budget_most p.budget
-    unfolding parameters_allowed
-    budget_decides = rw (u, g, c, t)
-
   pub allowed_ranges : parameters_allowed p ≡ true → Ranges p
   unfolding parameters_allowed
   allowed_ranges h =

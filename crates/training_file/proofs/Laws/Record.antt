@@ -1,6 +1,6 @@
 -- Laws of records. Assumes nothing.
 use mathlib.Core.Path.{◌≡◌, refl, sym, ◌∙◌, subst}
-use mathlib.Core.Bool.{Bool, true, false, ◌&&◌}
+use mathlib.Core.Bool.{Bool, true, ◌&&◌}
 use mathlib.Core.List.{List, [], ◌∷◌}
 use Prim.Native.Nat.{ℕ, zero, suc, ◌+◌, ◌<◌}
 use native.Mathlib.Nat.{le_of_suc-le-suc}
@@ -38,10 +38,6 @@ feature_bytes_small file bytes r i = by (dec_lt i feature_count)
 -- ---- refusal 4 by its parts
 
 module _ (d : ℕ) (file : List ℕ) (r : ℕ) where
-  pub zero_refused : eqb (zero_byte file r) 0 ≡ false → record_allowed d file r ≡ false
-  unfolding record_allowed
-  zero_refused h = rw h
-
   pub item_decides : eqb (zero_byte file r) 0 ≡ true → record_allowed d file r ≡ item_allowed d (label_byte file r) (features_at file r)
   unfolding record_allowed
   item_decides h = rw h

@@ -6,6 +6,7 @@ use mathlib.Core.List.{List, [], ◌∷◌, ◌++◌}
 use Prim.Native.Nat.{ℕ, suc, ◌+◌, ◌≤◌, ◌<◌}
 use native.Mathlib.Decide.{dec_lt}
 use native.Mathlib.Omega.{arith}
+use Rattle.std.specs.Result.{result_err}
 use lib.Dec.{leb}
 use lib.IntN.{ℤ, pos}
 use lib.ListN.{length, get_or, length-map, get_or-append, get_or-eq_default}
@@ -16,17 +17,17 @@ use Rattle.integers.proofs.Laws.Tabulate.{length-tabulate, tabulate_at}
 use Rattle.integers.proofs.Laws.Truth.{&&_right, &&_true}
 use Rattle.training_file.specs.declared.item.Item.{Item}
 use Rattle.training_file.specs.declared.parameters.Parameters.{Parameters}
-use Rattle.training_file.specs.Refusal.{refusal, writing_refuses}
+use Rattle.training_file.specs.declared.refusal.Refusal.TheVariants as refusal
+use Rattle.training_file.specs.Refusal.{writing_refuses}
 use Rattle.training_file.specs.Layout.{byte_at, byte_of_signed, feature_count, signed_most}
 use Rattle.training_file.specs.Parameters.{parameters_allowed, records_most}
 use Rattle.training_file.specs.Item.{both_labels, byte_of_label, features_allowed, item_in, label_allowed, label_of_byte}
 use Rattle.training_file.specs.Record.{every}
-use Rattle.training_file.specs.Answers.{count_refusal}
 use Rattle.training_file.proofs.Laws.Item.{label_back, label_byte_allowed}
 use Rattle.training_file.proofs.Laws.Record.{every_at}
 use Rattle.reading.specs.Reading.{Reading, accepted, reading}
 use Rattle.reading.specs.Reading as reader
-use Rattle.reading.specs.Calls.{file_answer, file_refusal}
+use Rattle.reading.specs.Calls.{file_answer}
 use Rattle.written_file.specs.File.{file_length, file_of}
 use Rattle.written_file.specs.Stored.{InOrder, Writable, numbers_to}
 use Rattle.written_file.specs.Output.{Refuses, file_fits, refused, unless, write_into, wrote, written_answer}
@@ -55,11 +56,11 @@ module _ (p : Parameters) (rows : List (List ℤ)) (room : ℕ) where
   passed : (file : List ℕ) → writing p rows room ≡ wrote file → Passed file
   unfolding writing
   passed file e =
-      let parameters = unless_wrote 2 (parameters_allowed p) _ file e in
-      let most = unless_wrote 1 (leb (length rows) records_most) _ file parameters.1 in
-      let rows_allowed = unless_wrote 4 (every (row_allowed p.used) rows) _ file most.1 in
-      let labels = unless_wrote 5 (both_labels (row_items rows)) _ file rows_allowed.1 in
-      let fits = unless_wrote 10 (file_fits (length (row_items rows)) room) (wrote (file_of p (row_items rows))) file labels.1 in
+      let parameters = unless_wrote refusal.Header (parameters_allowed p) _ file e in
+      let most = unless_wrote refusal.FileLength (leb (length rows) records_most) _ file parameters.1 in
+      let rows_allowed = unless_wrote refusal.Record (every (row_allowed p.used) rows) _ file most.1 in
+      let labels = unless_wrote refusal.Labels (both_labels (row_items rows)) _ file rows_allowed.1 in
+      let fits = unless_wrote refusal.Output (file_fits (length (row_items rows)) room) (wrote (file_of p (row_items rows))) file labels.1 in
       record {
         parameters = parameters.0;
         most = most.0;
@@ -74,15 +75,15 @@ module _ (p : Parameters) (rows : List (List ℤ)) (room : ℕ) where
   unfolding writing
   writing_refuses_lem =
       let tested = unless_refuses writing_refuses in
-      let after-5 = unless 10 (file_fits (length (row_items rows)) room) (wrote (file_of p (row_items rows))) in
-      let after-4 = unless 5 (both_labels (row_items rows)) after-5 in
-      let after-1 = unless 4 (every (row_allowed p.used) rows) after-4 in
-      let after-2 = unless 1 (leb (length rows) records_most) after-1 in
-      tested 2 (parameters_allowed p) after-2 refl (λ q. omega arith) (λ q. omega arith)
-      (tested 1 (leb (length rows) records_most) after-1 refl (λ q. omega arith) (λ q. omega arith)
-      (tested 4 (every (row_allowed p.used) rows) after-4 refl (λ q. omega arith) (λ q. omega arith)
-      (tested 5 (both_labels (row_items rows)) after-5 refl (λ q. omega arith) (λ q. omega arith)
-      (tested 10 (file_fits (length (row_items rows)) room) (wrote (file_of p (row_items rows))) refl (λ q. omega arith) (λ q. omega arith) tt))))
+      let after-5 = unless refusal.Output (file_fits (length (row_items rows)) room) (wrote (file_of p (row_items rows))) in
+      let after-4 = unless refusal.Labels (both_labels (row_items rows)) after-5 in
+      let after-1 = unless refusal.Record (every (row_allowed p.used) rows) after-4 in
+      let after-2 = unless refusal.FileLength (leb (length rows) records_most) after-1 in
+      tested refusal.Header (parameters_allowed p) after-2 refl (λ q. omega arith) (λ q. omega arith)
+      (tested refusal.FileLength (leb (length rows) records_most) after-1 refl (λ q. omega arith) (λ q. omega arith)
+      (tested refusal.Record (every (row_allowed p.used) rows) after-4 refl (λ q. omega arith) (λ q. omega arith)
+      (tested refusal.Labels (both_labels (row_items rows)) after-5 refl (λ q. omega arith) (λ q. omega arith)
+      (tested refusal.Output (file_fits (length (row_items rows)) room) (wrote (file_of p (row_items rows))) refl (λ q. omega arith) (λ q. omega arith) tt))))
 
 -- ---- "Reading such a file yields the same items and parameters"
 
@@ -158,15 +159,15 @@ rows_judged d (item ∷ items) sixteen allowed =
 pub rows_tested : (p : Parameters) (items : List Item) (room : ℕ) → parameters_allowed p ≡ true → length items ≤ records_most
     → ((k : ℕ) → k < length items → length (item_in items k).features ≡ feature_count)
     → ((k : ℕ) → k < length items → features_allowed p.used (item_in items k).features ≡ true)
-    → writing p (item_rows items) room ≡ unless 5 (both_labels items) (write_into room p items)
+    → writing p (item_rows items) room ≡ unless refusal.Labels (both_labels items) (write_into room p items)
 unfolding writing
 rows_tested p items room a few sixteen allowed =
     let same = rows_items items sixteen in
     let most = le-leb (length (item_rows items)) records_most (omega (arith, length-map items item_row)) in
-    λ j. unless 2 (a j)
-    (unless 1 (most j)
-    (unless 4 (rows_judged p.used items sixteen allowed j)
-    (unless 5 (both_labels (same j))
+    λ j. unless refusal.Header (a j)
+    (unless refusal.FileLength (most j)
+    (unless refusal.Record (rows_judged p.used items sixteen allowed j)
+    (unless refusal.Labels (both_labels (same j))
     (write_into room p (same j)))))
 
 -- parameters and items that make up a file are written as that file
@@ -174,7 +175,7 @@ rows_written : (p : Parameters) (items : List Item) (room : ℕ) → Writable p 
     → writing p (item_rows items) room ≡ wrote (file_of p items)
 rows_written p items room sound fits =
     rows_tested p items room sound.parameters sound.most sound.sixteen sound.features
-    ∙ (λ j. unless 5 (sound.labels j) (unless 10 (le-leb (file_length (length items)) room fits j) (wrote (file_of p items))))
+    ∙ (λ j. unless refusal.Labels (sound.labels j) (unless refusal.Output (le-leb (file_length (length items)) room fits j) (wrote (file_of p items))))
 
 pub read_written : (file : List ℕ) → ((i : ℕ) → byte_at file i < 256) → (p : Parameters) (order : List ℕ) (items : List Item)
     → reading file ≡ accepted p order items → InOrder file (length items) → (room : ℕ) → length file ≤ room
@@ -190,23 +191,23 @@ read_written file bytes p order items read ordered room fits =
 -- one accepts, so does the other.
 pub refuses_as_reader : (p : Parameters) (rows : List (List ℤ)) (room : ℕ) (file : List ℕ) → StoresRows file p rows
     → length rows ≤ records_most → file_length (length rows) ≤ room
-    → count_refusal (written_answer (writing p rows room)) ≡ file_refusal (file_answer (reading file))
+    → result_err (written_answer (writing p rows room)) ≡ result_err (file_answer (reading file))
 unfolding writing
 refuses_as_reader p rows room file stores few fits =
-    (λ j. count_refusal (written_answer
-    (unless 2 (parameters_allowed p)
-    (unless 1 (le-leb (length rows) records_most few j)
-    (unless 4 (every (row_allowed p.used) rows)
-    (unless 5 (both_labels (row_items rows))
-    (unless 10 (room_is j) (wrote (file_of p (row_items rows))))))))))
+    (λ j. result_err (written_answer
+    (unless refusal.Header (parameters_allowed p)
+    (unless refusal.FileLength (le-leb (length rows) records_most few j)
+    (unless refusal.Record (every (row_allowed p.used) rows)
+    (unless refusal.Labels (both_labels (row_items rows))
+    (unless refusal.Output (room_is j) (wrote (file_of p (row_items rows))))))))))
     ∙ alike (parameters_allowed p) (every (row_allowed p.used) rows) (both_labels (row_items rows))
-    ∙ ap (λ (read : Reading). file_refusal (file_answer read)) (sym read_is)
+    ∙ ap (λ (read : Reading). result_err (file_answer read)) (sym read_is)
   where
     room_is : file_fits (length (row_items rows)) room ≡ true
     room_is = le-leb (file_length (length (row_items rows))) room (omega (arith, length-map rows row_item))
 
     read_as : (a c d : Bool) → Reading
-    read_as a c d = reader.unless 2 a (reader.unless 4 c (reader.unless 5 d (accepted p (numbers_to (length rows)) (row_items rows))))
+    read_as a c d = reader.unless refusal.Header a (reader.unless refusal.Record c (reader.unless refusal.Labels d (accepted p (numbers_to (length rows)) (row_items rows))))
 
     read_is : reading file ≡ read_as (parameters_allowed p) (every (row_allowed p.used) rows) (both_labels (row_items rows))
     read_is =
@@ -214,8 +215,8 @@ refuses_as_reader p rows room file stores few fits =
         rows [] (row_allowed p.used) row_item refl few (λ k h. refl) (λ k h. refl)
 
     alike : (a c d : Bool)
-        → count_refusal (written_answer (unless 2 a (unless 4 c (unless 5 d (wrote (file_of p (row_items rows)))))))
-        ≡ file_refusal (file_answer (read_as a c d))
+        → result_err (written_answer (unless refusal.Header a (unless refusal.Record c (unless refusal.Labels d (wrote (file_of p (row_items rows)))))))
+        ≡ result_err (file_answer (read_as a c d))
     alike false c d = refl
     alike true false d = refl
     alike true true false = refl
@@ -224,11 +225,11 @@ refuses_as_reader p rows room file stores few fits =
 -- More rows than a file may store: the writer refuses with 1, once the parameters are allowed, and so does the reader each file that would
 -- store them.
 pub too_many_refused : (p : Parameters) (rows : List (List ℤ)) (room : ℕ) → records_most < length rows → parameters_allowed p ≡ true
-    → writing p rows room ≡ refused (refusal 1)
+    → writing p rows room ≡ refused refusal.FileLength
 too_many_refused p rows room many allowed = writes_1 p rows room allowed (lt-leb (length rows) records_most many)
 
 pub too_many_unreadable : (p : Parameters) (rows : List (List ℤ)) (file : List ℕ) → StoresRows file p rows → records_most < length rows
-    → reading file ≡ reader.refused (refusal 1)
+    → reading file ≡ reader.refused refusal.FileLength
 too_many_unreadable p rows file stores many = many_read file p (length rows) _ _ stores many
 
 -- There is such a file, as a list of numbers, for all rows of signed bytes.

@@ -2,7 +2,7 @@
 use mathlib.Core.Path.{◌≡◌, ◌∙◌, ap, ap₂}
 use mathlib.Core.List.{List, [], ◌∷◌, ◌++◌, map}
 use Prim.Native.Nat.{ℕ, ◌+◌, ◌*◌, ◌/◌, ◌%◌, ◌<◌}
-use native.Mathlib.Nat.{add_comm, div-add-mod', mul_comm}
+use native.Mathlib.Nat.{add_comm, mod-add-div, mul_comm}
 use native.Mathlib.Omega.{arith}
 use lib.Arith.{digits_div, digits_mod}
 use lib.IntN.{ℤ, pos}
@@ -17,8 +17,7 @@ use Rattle.written_file.specs.Fields.{bytes2, bytes4, bytes8, signed_bytes}
 
 module _ (half : ℕ) where
   pub halves_back : (number : ℕ) → number % half + half * (number / half) ≡ number
-  halves_back number =
-      ap (λ (k : ℕ). number % half + k) (mul_comm half (number / half)) ∙ add_comm (number % half) (number / half * half) ∙ div-add-mod' number half
+  halves_back number = mod-add-div number half
 
   turned : (low high : ℕ) → low + half * high ≡ high * half + low
   turned low high = add_comm low (half * high) ∙ ap (λ (k : ℕ). k + low) (mul_comm half high)

@@ -13,7 +13,7 @@ use borrow.Author.Tests.{eq-eqb, le-ltb, lt-ltb}
 use Rattle.integers.proofs.Laws.Tabulate.{length-tabulate, tabulate_at}
 use Rattle.training_file.specs.declared.item.Item.{Item}
 use Rattle.training_file.specs.declared.parameters.Parameters.{Parameters}
-use Rattle.training_file.specs.Refusal.{refusal}
+use Rattle.training_file.specs.declared.refusal.Refusal.TheVariants.{FileLength, Header, Labels, Record}
 use Rattle.training_file.specs.Layout.{first_record, next_of, zero_byte}
 use Rattle.training_file.specs.Parameters.{kernel_allowed, parameters_allowed, records_most}
 use Rattle.training_file.specs.Item.{both_labels, item_allowed, item_of}
@@ -101,7 +101,7 @@ module _ (file : List ℕ) (p : Parameters) (n : ℕ) (label : ℕ → ℕ) (fea
   item_held k h = ap₂ item_of (held.label_is k h) (held.features_are k h)
 
   -- more records than a file may store
-  pub many_read : records_most < n → reading file ≡ refused (refusal 1)
+  pub many_read : records_most < n → reading file ≡ refused FileLength
   many_read h = reads_1 file (many_refused file (omega (arith, held.in_order.stored)))
 
   -- The reading of a file that stores what a list gives, place by place: refusals 2, 4 and 5 by the parameters and the list alone.
@@ -126,16 +126,16 @@ module _ (file : List ℕ) (p : Parameters) (n : ℕ) (label : ℕ → ℕ) (fea
         ap (item_at file) (numbers_at n k l) ∙ item_held k l ∙ sym (gives k l))
 
     abbrev judged : List Item → Bool → Reading
-    judged items allowed = unless 4 allowed (unless 5 (both_labels items) (accepted p (numbers_to n) items))
+    judged items allowed = unless Record allowed (unless Labels (both_labels items) (accepted p (numbers_to n) items))
 
     chain_is_read : header_allowed file ≡ true → reading file ≡ judged (map item list) (every test list)
     chain_is_read h =
         chain_read file long h (numbers_to n) (in_order_chain file n held.in_order)
-        ∙ (λ j. unless 4 (every_is j) (unless 5 (both_labels (items_are j)) (accepted (held.parameters_are j) (numbers_to n) (items_are j))))
+        ∙ (λ j. unless Record (every_is j) (unless Labels (both_labels (items_are j)) (accepted (held.parameters_are j) (numbers_to n) (items_are j))))
 
-    pub stored_read : reading file ≡ unless 2 (parameters_allowed p) (judged (map item list) (every test list))
+    pub stored_read : reading file ≡ unless Header (parameters_allowed p) (judged (map item list) (every test list))
     stored_read = by (parameters_allowed p) refl
       where
-        by : (allowed : Bool) → parameters_allowed p ≡ allowed → reading file ≡ unless 2 allowed (judged (map item list) (every test list))
+        by : (allowed : Bool) → parameters_allowed p ≡ allowed → reading file ≡ unless Header allowed (judged (map item list) (every test list))
         by true e = chain_is_read (header_decides ∙ e)
         by false e = reads_2 file long (header_decides ∙ e)

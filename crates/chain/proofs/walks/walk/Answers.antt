@@ -1,63 +1,89 @@
 -- `chain::walks::walk` meets its contract. The loop's invariant: the walk stands after the records met, which have their marks. The measure
 -- is how many more it may meet. Assumes nothing.
 use mathlib.Core.Path.{◌≡◌, sym, ap, subst, ◌∙◌}
+use mathlib.Core.Bool.{Bool, true, false}
 use mathlib.Core.List.{List}
 use Prim.Native.Nat.{ℕ, ◌+◌, ◌≤◌, ◌<◌}
 use native.Mathlib.Omega.{arith}
 use lib.ListN.{get_or, set}
 use Rattle.training_file.specs.Layout.{records_stored}
 use Rattle.training_file.specs.Parameters.{records_most}
-use Rattle.training_file.specs.declared.count.Count.TheVariants.{Refused}
 use Rattle.chain.proofs.Laws.Answers.{Passed, mark_again, mark_left, mark_new, passed_first, passed_last, link_ended, link_next_lem, link_over}
+use Rattle.chain.specs.declared.link.Link.{Link}
 use Rattle.chain.specs.declared.link.Link.TheVariants.{Next}
 use Rattle.chain.specs.Answers.{link_at}
 use Rattle.chain.proofs.walks.walk.Goals as goal
 
--- a link to go on by: its number is one of those stored, and it and the last record met have a place among the marks
-few : (file marks : List ℕ) (last number met next : ℕ) → Passed file marks last number met → records_stored file ≤ records_most → Next next ≡ link_at file number met
-    → (number < 257) × (last < 257)
-few file marks last number met next p most e =
-    let found = link_next_lem file marks last number met p next (sym e) in
-    let before = passed_last file marks last number met p in
-    (omega (arith, found.1, most), omega (arith, before, most))
-
--- one that has no mark: there are fewer met than are stored, and it joins them
-left : (file marks : List ℕ) (last number met next : ℕ) → Passed file marks last number met → records_stored file ≤ records_most → Next next ≡ link_at file number met
-    → get_or marks number 0 ≡ 0 → met < records_stored file
+-- a record that has no mark: there are fewer met than are stored, and it joins them
+left : (file : List ℕ) (marks : List Bool) (last number met next : ℕ) → Passed file marks last number met → records_stored file ≤ records_most → Next next ≡ link_at file number met
+    → get_or marks number false ≡ false → met < records_stored file
 left file marks last number met next p most e fresh =
     let found = link_next_lem file marks last number met p next (sym e) in
     mark_left file marks last number met p most found.0 found.1 fresh
 
-joined : (file marks : List ℕ) (last number met next : ℕ) → Passed file marks last number met → records_stored file ≤ records_most → Next next ≡ link_at file number met
-    → get_or marks number 0 ≡ 0 → Passed file (set marks number 1) number next (met + 1)
+joined : (file : List ℕ) (marks : List Bool) (last number met next : ℕ) → Passed file marks last number met → records_stored file ≤ records_most → Next next ≡ link_at file number met
+    → get_or marks number false ≡ false → Passed file (set marks number true) number next (met + 1)
 joined file marks last number met next p most e fresh =
     let found = link_next_lem file marks last number met p next (sym e) in
-    subst (λ (n : ℕ). Passed file (set marks number 1) number n (met + 1)) found.2
+    subst (λ (n : ℕ). Passed file (set marks number true) number n (met + 1)) found.2
     (mark_new file marks last number met p most found.0 found.1 fresh)
 
+-- what is found on the walker's file is found on the file itself
+on_file : (file seen : List ℕ) (number met : ℕ) (link : Link) → seen ≡ file → link ≡ link_at seen number met → link_at file number met ≡ link
+on_file file seen number met link same e = sym (e ∙ ap (λ f. link_at f number met) same)
+
+-- where the walker stands
+stands : (file : List ℕ) (marks : List Bool) (last number met at count : ℕ) → number ≡ at → met ≡ count → Passed file marks last at count → Passed file marks last number met
+stands file marks last number met at count e f p = subst (λ (n : ℕ). Passed file marks last n met) (sym e) (subst (λ (m : ℕ). Passed file marks last at m) (sym f) p)
+
 pub loop-count-init : goal.loop-count-init
-loop-count-init c = subst (λ (number : ℕ). Passed c.args.file.now _ 0 number 0) (sym c.first-number.ensures) (passed_first _)
+loop-count-init c = record {
+  same_file = (λ i. (c.start-walker.ensures.0 i).now);
+  passed = stands _ _ _ _ _ _ _ c.start-walker.ensures.1 c.start-walker.ensures.2 (passed_first c.args.file.now);
+}
 
 pub loop-count-preserved : goal.loop-count-preserved
-loop-count-preserved c = joined _ _ _ _ _ _ c.loop-count.invariant c.requires.most c.in-Next.ensures c.if-marks-number-ne0.false
+loop-count-preserved c =
+    let i = c.loop-count.invariant in
+    let found = on_file c.args.file.now c.loop-count.walker.file.now c.loop-count.walker.number c.loop-count.walker.met _ i.same_file c.in-Next.ensures in
+    record {
+      same_file = (λ k. (c.step_to-walker.ensures.0 k).now) ∙ i.same_file;
+      passed =
+          stands _ _ _ _ _ _ _ c.step_to-walker.ensures.1 c.step_to-walker.ensures.2
+          (joined _ _ _ _ _ _ i.passed c.requires.most (sym found) c.if-marks-walker.false);
+    }
+
+pub step_to-walker-requires : goal.step_to-walker-requires
+step_to-walker-requires c =
+    let i = c.loop-count.invariant in
+    let found = on_file c.args.file.now c.loop-count.walker.file.now c.loop-count.walker.number c.loop-count.walker.met _ i.same_file c.in-Next.ensures in
+    omega (arith, left _ _ _ _ _ _ i.passed c.requires.most (sym found) c.if-marks-walker.false, c.requires.most)
 
 pub loop-count-smaller : goal.loop-count-smaller
-loop-count-smaller c = omega (arith, left _ _ _ _ _ _ c.loop-count.invariant c.requires.most c.in-Next.ensures c.if-marks-number-ne0.false)
+loop-count-smaller c =
+    let i = c.loop-count.invariant in
+    let found = on_file c.args.file.now c.loop-count.walker.file.now c.loop-count.walker.number c.loop-count.walker.met _ i.same_file c.in-Next.ensures in
+    omega (arith, left _ _ _ _ _ _ i.passed c.requires.most (sym found) c.if-marks-walker.false, c.step_to-walker.ensures.2)
 
-pub overflow_add-met : goal.overflow_add-met
-overflow_add-met c = omega (arith, left _ _ _ _ _ _ c.loop-count.invariant c.requires.most c.in-Next.ensures c.if-marks-number-ne0.false, c.requires.most)
+pub overflow_cast-result : goal.overflow_cast-result
+overflow_cast-result c = omega (arith, passed_last _ _ _ _ _ c.loop-count.invariant.passed, c.requires.most)
 
-pub overflow_cast-last-then-marks-number-ne0 : goal.overflow_cast-last-then-marks-number-ne0
-overflow_cast-last-then-marks-number-ne0 c = omega (arith, few _ _ _ _ _ _ c.loop-count.invariant c.requires.most c.in-Next.ensures)
+pub overflow_cast-result-then-marks-walker : goal.overflow_cast-result-then-marks-walker
+overflow_cast-result-then-marks-walker c = omega (arith, passed_last _ _ _ _ _ c.loop-count.invariant.passed, c.requires.most)
 
 pub returns-in-Ended : goal.returns-in-Ended
-returns-in-Ended c = sym (link_ended _ _ _ _ _ c.loop-count.invariant _ (sym c.in-Ended.ensures))
+returns-in-Ended c =
+    let i = c.loop-count.invariant in
+    sym (link_ended _ _ _ _ _ i.passed _ (on_file c.args.file.now c.loop-count.walker.file.now c.loop-count.walker.number c.loop-count.walker.met _ i.same_file c.in-Ended.ensures))
 
 pub returns-in-Over : goal.returns-in-Over
-returns-in-Over c = ap Refused c.at_record.ensures ∙ sym (link_over _ _ _ _ _ c.loop-count.invariant (sym c.in-Over.ensures))
+returns-in-Over c =
+    let i = c.loop-count.invariant in
+    sym (link_over _ _ _ _ _ i.passed (on_file c.args.file.now c.loop-count.walker.file.now c.loop-count.walker.number c.loop-count.walker.met _ i.same_file c.in-Over.ensures))
 
-pub returns-then-marks-number-ne0 : goal.returns-then-marks-number-ne0
-returns-then-marks-number-ne0 c =
-    let found = link_next_lem _ _ _ _ _ c.loop-count.invariant _ (sym c.in-Next.ensures) in
-    ap Refused c.at_record-then-marks-number-ne0.ensures
-    ∙ sym (mark_again _ _ _ _ _ c.loop-count.invariant c.requires.most found.0 found.1 c.if-marks-number-ne0.true)
+pub returns-then-marks-walker : goal.returns-then-marks-walker
+returns-then-marks-walker c =
+    let i = c.loop-count.invariant in
+    let found = on_file c.args.file.now c.loop-count.walker.file.now c.loop-count.walker.number c.loop-count.walker.met _ i.same_file c.in-Next.ensures in
+    let stored = link_next_lem _ _ _ _ _ i.passed _ found in
+    sym (mark_again _ _ _ _ _ i.passed c.requires.most stored.0 stored.1 c.if-marks-walker.true)

@@ -1,16 +1,20 @@
 -- `last_items::kept::keep_hashed` meets its contract. Assumes nothing.
-use mathlib.Core.Path.{◌≡◌, sym, ◌∙◌, ap, ap₂, subst}
+use mathlib.Core.Path.{◌≡◌, refl, sym, ◌∙◌, ap, ap₂, subst}
 use mathlib.Core.Bool.{Bool, ◌||◌, not}
 use mathlib.Core.List.{List}
-use Prim.Native.Nat.{ℕ, ◌+◌, ◌-◌, ◌<◌}
+use Prim.Native.Nat.{ℕ, ◌+◌, ◌-◌, ◌≤◌, ◌<◌}
 use native.Mathlib.Omega.{arith}
-use lib.ListN.{length, get_or, take, drop}
+use lib.ListN.{length, get_or, take, drop, length-drop}
+use Rattle.std.proofs.lemmas.List.{drop-map, get_or-map}
 use Rattle.training_file.specs.Layout.{feature_count}
+use Rattle.training_file.specs.Parameters.{records_most}
 use Rattle.training_file.specs.Record.{Stored, item_at}
 use Rattle.last_items.specs.Last.{repeated}
 use Rattle.last_items.specs.Kept.{AllStored, hash_at, hashes_at, items_at, stays_at}
-use Rattle.last_items.proofs.Laws.Kept.{Keeping, hash_at_lem, hashes_drop, keeping_all, keeping_less, keeping_more, keeping_number, keeping_rest, part_from, stays_is, stored-drop}
+use Rattle.last_items.specs.Records.{items_of}
+use Rattle.last_items.proofs.Laws.Kept.{Keeping, keeping_all, keeping_less, keeping_more, keeping_number, keeping_rest, part_from, stays_is, stored-drop}
 use Rattle.last_items.proofs.kept.keep_hashed.Goals as goal
+use Rattle.last_items.proofs.kept.keep_hashed.Goals.{then-repeats, else-repeats, then-not-repeated, else-not-repeated}
 
 -- a turn of the loop: its number and all after it stand where they stood, and the hashes are theirs
 module _ (file later_file later before numbers : List ℕ) (kept k : ℕ) (so : Keeping file (items_at later_file later) before numbers kept k) where
@@ -30,12 +34,15 @@ module _ (file later_file later before numbers : List ℕ) (kept k : ℕ) (so : 
     rest_stored : AllStored file rest
     rest_stored = subst (AllStored file) (sym rest_is) (stored-drop file before (k + 1) stored)
 
+  rest_few : length before ≤ records_most → length rest ≤ records_most
+  rest_few few = omega (arith, so.places, ap length rest_is, length-drop (k + 1) before)
+
   module _ (hashes : List ℕ) (hashed : hashes ≡ hashes_at file before) (inside : k < length before) where
     hash_is : get_or hashes k 0 ≡ hash_at file (get_or numbers k 0)
-    hash_is = ap (λ (l : List ℕ). get_or l k 0) hashed ∙ hash_at_lem file before k inside ∙ ap (hash_at file) (sym number_is)
+    hash_is = ap (λ (l : List ℕ). get_or l k 0) hashed ∙ get_or-map (hash_at file) before k 0 0 inside ∙ ap (hash_at file) (sym number_is)
 
     rest_hashed : take (length hashes - (k + 1)) (drop (k + 1) hashes) ≡ hashes_at file rest
-    rest_hashed = part_from hashes (k + 1) ∙ ap (drop (k + 1)) hashed ∙ hashes_drop file before (k + 1) ∙ ap (hashes_at file) (sym rest_is)
+    rest_hashed = part_from hashes (k + 1) ∙ ap (drop (k + 1)) hashed ∙ drop-map (hash_at file) (k + 1) before ∙ ap (hashes_at file) (sym rest_is)
 
   -- whether the record stays
   stays : {own other : Bool}
@@ -44,41 +51,50 @@ module _ (file later_file later before numbers : List ℕ) (kept k : ℕ) (so : 
       → not (own || other) ≡ stays_at file (items_at later_file later) (get_or before k 0) (drop (k + 1) before)
   stays own other = stays_is file later_file later (get_or numbers k 0) rest own other ∙ ap₂ (stays_at file (items_at later_file later)) number_is rest_is
 
-pub is_repeated-own-requires-clause-stored : goal.is_repeated-own-requires-clause-stored
-is_repeated-own-requires-clause-stored c =
+pub invariant_of-rest : goal.invariant_of-rest
+invariant_of-rest c =
     let so = c.loop-k.invariant in
-    let inside : c.loop-k.k < length c.args.numbers.now = omega (arith, so.places) in
-    (number_stored _ _ _ _ _ _ _ so c.requires.stored.0 inside, rest_stored _ _ _ _ _ _ _ so c.requires.stored.0 inside)
+    record {
+      bytes = λ i. let small = c.type_inv.file i in omega arith;
+      few = rest_few _ _ _ _ _ _ _ so c.requires.stored.few;
+      stored = rest_stored _ _ _ _ _ _ _ so c.requires.stored.stored (omega (arith, so.places));
+    }
 
-pub is_repeated-own-requires-clause-hashed : goal.is_repeated-own-requires-clause-hashed
-is_repeated-own-requires-clause-hashed c =
+pub invariant_of-rest-in-loop-k : goal.invariant_of-rest-in-loop-k
+invariant_of-rest-in-loop-k c =
     let so = c.loop-k.invariant in
-    let inside : c.loop-k.k < length c.args.numbers.now = omega (arith, so.places) in
-    (hash_is _ _ _ _ _ _ _ so _ c.requires.hashed.0 inside, rest_hashed _ _ _ _ _ _ _ so _ c.requires.hashed.0 inside)
+    record { hashed = rest_hashed _ _ _ _ _ _ _ so _ c.requires.hashed (omega (arith, so.places)) }
 
-pub is_repeated-other-requires-clause-stored : goal.is_repeated-other-requires-clause-stored
-is_repeated-other-requires-clause-stored c =
-    let so = c.loop-k.invariant in
-    let inside : c.loop-k.k < length c.args.numbers.now = omega (arith, so.places) in
-    (number_stored _ _ _ _ _ _ _ so c.requires.stored.0 inside, c.requires.stored.1)
+pub repeats-requires-clause-stored : goal.repeats-requires-clause-stored
+repeats-requires-clause-stored c =
+    let so = c.loop-k.invariant in number_stored _ _ _ _ _ _ _ so c.requires.stored.stored (omega (arith, so.places))
 
-pub is_repeated-other-requires-clause-hashed : goal.is_repeated-other-requires-clause-hashed
-is_repeated-other-requires-clause-hashed c =
-    let so = c.loop-k.invariant in
-    let inside : c.loop-k.k < length c.args.numbers.now = omega (arith, so.places) in
-    (hash_is _ _ _ _ _ _ _ so _ c.requires.hashed.0 inside, c.requires.hashed.1)
+pub repeats-requires-clause-hashed : goal.repeats-requires-clause-hashed
+repeats-requires-clause-hashed c =
+    let so = c.loop-k.invariant in hash_is _ _ _ _ _ _ _ so _ c.requires.hashed (omega (arith, so.places))
 
-pub loop-k-preserved-then-not-own-other : goal.loop-k-preserved-then-not-own-other
-loop-k-preserved-then-not-own-other c =
-    let so = c.loop-k.invariant in
-    keeping_more _ _ _ _ _ _ so (omega (arith, so.places))
-    (sym (stays _ _ _ _ _ _ _ so c.is_repeated-own.ensures c.is_repeated-other.ensures) ∙ ap not c.if-not-own-other.true)
+pub repeats-repeated-requires-clause-stored : goal.repeats-repeated-requires-clause-stored
+repeats-repeated-requires-clause-stored c =
+    let so = c.loop-k.invariant in number_stored _ _ _ _ _ _ _ so c.requires.stored.stored (omega (arith, so.places))
+
+pub repeats-repeated-requires-clause-hashed : goal.repeats-repeated-requires-clause-hashed
+repeats-repeated-requires-clause-hashed c =
+    let so = c.loop-k.invariant in hash_is _ _ _ _ _ _ _ so _ c.requires.hashed (omega (arith, so.places))
 
 pub loop-k-preserved : goal.loop-k-preserved
 loop-k-preserved c =
     let so = c.loop-k.invariant in
-    keeping_less _ _ _ _ _ _ so (omega (arith, so.places))
-    (sym (stays _ _ _ _ _ _ _ so c.is_repeated-own.ensures c.is_repeated-other.ensures) ∙ ap not c.if-not-own-other.false)
+    let inside : c.loop-k.k < length c.args.numbers.now = c.loop-k-test.true in
+    let later = c.args.later.now.records in
+    let judged : not c.if-repeats.repeated ≡ stays_at c.args.file.now (items_of later) (get_or c.args.numbers.now c.loop-k.k 0) (drop (c.loop-k.k + 1) c.args.numbers.now)
+    = elim c.if-repeats.branch [
+      | then-repeats w ↦ ap not (w.repeated-is ∙ w.if-repeats.true) ∙ stays _ _ _ _ _ _ _ so (sym w.if-repeats.true ∙ c.repeats.ensures) refl
+      | else-repeats w ↦ ap not w.repeated-is ∙ stays _ _ _ _ _ _ _ so (sym w.if-repeats.false ∙ c.repeats.ensures) w.repeats-repeated.ensures
+    ] in
+    elim c.if-not-repeated.branch [
+      | then-not-repeated w ↦ rw w.kept-is (keeping_more _ _ _ _ _ _ so inside (sym judged ∙ ap not w.if-not-repeated.true))
+      | else-not-repeated w ↦ rw w.kept-is (keeping_less _ _ _ _ _ _ so inside (sym judged ∙ ap not w.if-not-repeated.false))
+    ]
 
 pub returns : goal.returns
 returns c = keeping_all _ _ _ _ _ _ c.loop-k.invariant (omega (arith, c.loop-k.invariant.places))

@@ -1,12 +1,11 @@
 -- `libsvm_text::group::read_group` meets its contract: a number with its colon, and then a value. Assumes nothing.
-use borrow.Author.Rules.{rules}
-use borrow.Author.Tests.{not-false}
-use mir.Syntax.{w8}
-use Rattle.integers.proofs.Laws.Bounds.{reads_element}
-use Rattle.libsvm_text.proofs.Laws.Group.{group_some}
+use Rattle.libsvm_text.proofs.Laws.Group.{group_found, group_valueless}
 use Rattle.libsvm_text.proofs.group.read_group.Goals as goal
 
+pub returns-in_err-value : goal.returns-in_err-value
+returns-in_err-value c =
+    rw c.from_residual-in_err-value.ensures
+    (group_valueless c.args.from.used c.args.last c.args.from.text.now c.args.from.at c.in_ok-number.ensures c.in_err-value.ensures)
+
 pub returns : goal.returns
-returns c =
-    group_some c.args.used c.args.last c.args.text.now c.args.start c.read_number-number.ensures (not-false _ c.if-not-number.false)
-    c.read_value-value.ensures (reads_element w8 c.read_value-value.result.feature (search rules))
+returns c = group_found c.args.from.used c.args.last c.args.from.text.now c.args.from.at c.in_ok-number.ensures c.in_ok-value.ensures

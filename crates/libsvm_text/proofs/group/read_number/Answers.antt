@@ -1,46 +1,25 @@
--- `libsvm_text::group::read_number` meets its contract, by the count of digits. Assumes nothing.
-use mathlib.Core.Path.{◌≡◌, refl, sym, ◌∙◌}
-use mathlib.Core.Bool.{true, ◌&&◌}
-use borrow.Author.Tests.{le-ltb, lt-ltb}
-use lib.Dec.{eqb, leb, ltb}
-use lib.ListN.{get_or}
-use Rattle.libsvm_text.specs.Read.{leads}
-use Rattle.libsvm_text.proofs.Laws.Group.{reads_none, reads_one_digit, reads_two_digits}
-use Rattle.libsvm_text.proofs.Laws.Taken.{and_else, and_then}
+-- `libsvm_text::group::read_number` meets its contract. Assumes nothing.
+use mathlib.Core.Path.{refl}
+use native.Mathlib.Omega.{arith}
+use borrow.Author.Tests.{eq-eqb, le-leb, lt-ltb}
+use lib.ListN.{drop, length}
+use Rattle.integers.proofs.Laws.Truth.{&&_true}
+use Rattle.libsvm_text.specs.Read.{leading}
+use Rattle.libsvm_text.proofs.Laws.Group.{number_found, number_none}
+use Rattle.libsvm_text.proofs.Laws.Groups.{digits_within}
 use Rattle.libsvm_text.proofs.group.read_number.Goals as goal
-use Rattle.libsvm_text.proofs.group.read_number.Goals.{then-is_digit, else-is_digit, then-last-number, else-last-number}
 
-pub returns-then-not-is_leading : goal.returns-then-not-is_leading
-returns-then-not-is_leading c = reads_none c.args.used c.args.last c.args.text.now c.args.start (sym c.is_leading.ensures ∙ c.if-not-is_leading.true) refl
+pub returns-in_err-digits : goal.returns-in_err-digits
+returns-in_err-digits c =
+    rw c.from_residual.ensures (number_none c.args.from.used c.args.last c.args.from.text.now c.args.from.at c.in_err-digits.ensures)
 
-pub returns-then-rises : goal.returns-then-rises
-returns-then-rises c =
-    let low = c.args.last in
-    let number = c.if-is_digit.number in
-    let rises : c.if-last-number.rises ≡ ltb low number && leb number c.args.used =
-    elim c.if-last-number.branch [
-      | then-last-number w ↦ and_then (ltb low number) _ (lt-ltb low number w.if-last-number.true) w.rises-is
-      | else-last-number w ↦ and_else (ltb low number) _ (le-ltb low number w.if-last-number.false) w.rises-is
-    ] in
-    let tested = and_then (ltb low number && leb number c.args.used) (eqb (get_or c.args.text.now c.if-is_digit.end 0) 58) (sym rises ∙ c.if-rises.true) refl in
-    let led : leads (get_or c.args.text.now c.args.start 0) ≡ true = sym c.is_leading.ensures ∙ c.if-not-is_leading.false in
-    elim c.if-is_digit.branch [
-      | then-is_digit w ↦ reads_two_digits c.args.used low c.args.text.now c.args.start led _ tested c.requires.1 (sym c.is_digit.ensures ∙ w.if-is_digit.true) w.number-is w.end-is
-      | else-is_digit w ↦ reads_one_digit c.args.used low c.args.text.now c.args.start led _ tested (sym c.is_digit.ensures ∙ w.if-is_digit.false) w.number-is w.end-is
-    ]
+pub bounds-text-digits : goal.bounds-text-digits
+bounds-text-digits c =
+    let within = digits_within c.args.from.text.now c.args.from.at (length (leading (drop c.args.from.at c.args.from.text.now)))
+    (record { ends = c.args.from.ends; place = c.args.from.within }) refl in
+    omega (arith, within.place, c.in_ok-digits.ensures.end_is)
 
-pub returns-else-rises : goal.returns-else-rises
-returns-else-rises c =
-    let low = c.args.last in
-    let number = c.if-is_digit.number in
-    let rises : c.if-last-number.rises ≡ ltb low number && leb number c.args.used =
-    elim c.if-last-number.branch [
-      | then-last-number w ↦ and_then (ltb low number) _ (lt-ltb low number w.if-last-number.true) w.rises-is
-      | else-last-number w ↦ and_else (ltb low number) _ (le-ltb low number w.if-last-number.false) w.rises-is
-    ] in
-    let tested = and_else (ltb low number && leb number c.args.used) (eqb (get_or c.args.text.now c.if-is_digit.end 0) 58) (sym rises ∙ c.if-rises.false) rises in
-    let led : leads (get_or c.args.text.now c.args.start 0) ≡ true = sym c.is_leading.ensures ∙ c.if-not-is_leading.false in
-    elim c.if-is_digit.branch [
-      | then-is_digit w ↦ reads_two_digits c.args.used low c.args.text.now c.args.start led _ tested c.requires.1 (sym c.is_digit.ensures ∙ w.if-is_digit.true) w.number-is w.end-is
-      | else-is_digit w ↦ reads_one_digit c.args.used low c.args.text.now c.args.start led _ tested (sym c.is_digit.ensures ∙ w.if-is_digit.false) w.number-is w.end-is
-    ]
+pub returns-then-text-digits-eq58 : goal.returns-then-text-digits-eq58
+returns-then-text-digits-eq58 c =
+    number_found c.args.from.used c.args.last c.args.from.text.now c.args.from.at c.in_ok-digits.ensures c.in_ok-number.was
+    (&&_true (&&_true (lt-ltb _ _ c.if-last-number.true) (le-leb _ _ c.if-number-used.true)) (eq-eqb _ 58 c.if-text-digits-eq58.true))

@@ -1,13 +1,10 @@
--- `libsvm_text::group::read_value` meets its contract: what is told of the digits serves for their number. Assumes nothing.
+-- `libsvm_text::group::read_value` meets its contract. Assumes nothing.
 use mathlib.Core.Path.{◌≡◌, refl, sym, ◌∙◌, ap}
-use mathlib.Core.Bool.{true}
 use Prim.Native.Nat.{ℕ, ◌+◌}
 use borrow.Author.Tests.{eq-eqb, ne_eqb}
 use lib.Dec.{eqb}
 use lib.ListN.{get_or}
-use mir.Syntax.{w8}
-use Rattle.integers.proofs.Laws.Bounds.{reads_element}
-use Rattle.libsvm_text.specs.Read.{leads}
+use Rattle.std.specs.Prelude.{Some}
 use Rattle.libsvm_text.proofs.Laws.Value.{digits_place, reads_led, reads_signed}
 use Rattle.libsvm_text.proofs.group.read_value.Goals as goal
 use Rattle.libsvm_text.proofs.group.read_value.Goals.{then-minus, else-minus}
@@ -20,19 +17,10 @@ module _ (byte start at : ℕ) where
   no_sign : (byte ≡ 45 → ⊥) → at ≡ start → at ≡ digits_place (eqb byte 45) start
   no_sign h e = e ∙ sym (ap (λ t. digits_place t start) (ne_eqb byte 45 h))
 
-pub returns-then-not-is_leading : goal.returns-then-not-is_leading
-returns-then-not-is_leading c =
-    let byte = get_or c.args.text.now c.args.start 0 in
-    let place : c.if-minus.digits_at ≡ digits_place (eqb byte 45) c.args.start =
-    elim c.if-minus.branch [ then-minus w ↦ after_sign _ _ _ w.if-minus.true w.digits_at-is | else-minus w ↦ no_sign _ _ _ w.if-minus.false w.digits_at-is ] in
-    reads_signed c.args.text.now c.args.start (eqb byte 45) refl place c.read_zero.ensures
-
 pub returns : goal.returns
 returns c =
-    let byte = get_or c.args.text.now c.args.start 0 in
-    let place : c.if-minus.digits_at ≡ digits_place (eqb byte 45) c.args.start =
+    let byte = get_or c.args.from.text.now c.args.from.at 0 in
+    let place : c.if-minus.digits_at ≡ digits_place (eqb byte 45) c.args.from.at =
     elim c.if-minus.branch [ then-minus w ↦ after_sign _ _ _ w.if-minus.true w.digits_at-is | else-minus w ↦ no_sign _ _ _ w.if-minus.false w.digits_at-is ] in
-    let led : leads (get_or c.args.text.now c.if-minus.digits_at 0) ≡ true = sym c.is_leading.ensures ∙ c.if-not-is_leading.false in
-    reads_signed c.args.text.now c.args.start (eqb byte 45) refl place
-    (reads_led c.args.text.now c.if-minus.digits_at (eqb byte 45) led c.read_digits-digits.ensures
-    (reads_element w8 c.signed_feature.result c.signed_feature.type_inv ∙ c.signed_feature.ensures))
+    reads_signed c.args.from.text.now c.args.from.at (eqb byte 45) refl (Some _) place
+    (reads_led c.args.from.text.now c.if-minus.digits_at (eqb byte 45) c.in-Some.ensures c.signed.ensures)

@@ -1,9 +1,9 @@
--- `lines::print::put_items` meets its contract. The loop's invariant: the lines of the first i items are put, and their totals are held.
--- Assumes nothing.
-use mathlib.Core.List.{List}
-use mathlib.Core.Path.{◌≡◌}
-use Prim.Native.Nat.{ℕ, ◌-◌, ◌≤◌}
+-- `lines::print::put_items` meets its contract. The loop's invariant: the lines of the items before the place are put, and their totals are
+-- held. Assumes nothing.
+use Rattle.std.proofs.Common.{◌≡◌, ℕ, List}
+use Rattle.buffer.specs.declared.put.Cursor.{Cursor}
 use Rattle.buffer.specs.Put.{Put}
+use Rattle.totals.specs.declared.sums.Totals.{Totals}
 use Rattle.totals.specs.Totals.{totals as totals_below}
 use Rattle.lines.specs.Lines.{item_line, joined, shown_in}
 use Rattle.lines.proofs.print.put_items.Given as goal
@@ -12,8 +12,9 @@ use Rattle.lines.proofs.print.put_items.Given as goal
 abbrev pub lines_below : List ℕ → List ℕ → ℕ → List ℕ
 lines_below file multipliers n = joined n (λ i. item_line (shown_in file multipliers i))
 
-abbrev pub invariant-loop-i : goal.invariant-loop-i
-invariant-loop-i l = (l.i ≤ l.count) × (l.totals ≡ totals_below l.i (shown_in l.file l.multipliers)) × Put (lines_below l.file l.multipliers l.i) l.at l.initial.out l.out l.end
+pub record PutBelow (file multipliers : List ℕ) (n : ℕ) (totals : Totals) (before after : Cursor) : Type 0 where
+  pub added : totals ≡ totals_below n (shown_in file multipliers)
+  pub left : Put (lines_below file multipliers n) before after
 
-abbrev pub decreases-loop-i : goal.decreases-loop-i
-decreases-loop-i l = l.count - l.i
+abbrev pub invariant-loop-place : goal.invariant-loop-place
+invariant-loop-place l = PutBelow l.problem.file.now l.multipliers l.place l.totals l.initial.out l.out

@@ -8,6 +8,7 @@ use lib.ListN.{length}
 use Rattle.training_file.specs.declared.item.Item.{Item}
 use Rattle.training_file.specs.declared.parameters.Parameters.{Parameters}
 use Rattle.training_file.specs.declared.refusal.Refusal.{Refusal}
+use Rattle.training_file.specs.Refusal.{number_of, record_of}
 use Rattle.reading.specs.Reading.{accepted, reading, refused}
 use Rattle.reading.proofs.Laws.Reading.{accepted_is}
 use Rattle.reading.proofs.Laws.Reading.Accepted.{accepted_ranges, items_most}
@@ -25,7 +26,7 @@ use Rattle.listing.specs.Listing.{listing, listing_of}
 
 -- a refusal prints no total, and nothing else beside its line
 pub refused_one_line : (file : List ℕ) (why : Refusal) → reading file ≡ refused why
-    → parts 10 (listing_of (reading file)) ≡ (refused_text ++ (field why.number ++ record_field why.at)) ∷ [] ∷ []
+    → parts 10 (listing_of (reading file)) ≡ (refused_text ++ (field (number_of why) ++ record_field (record_of why))) ∷ [] ∷ []
 unfolding listing listing_of
 refused_one_line file why e = ap (λ r. parts 10 (listing_of r)) e ∙ refusal_one_line why
 

@@ -1,24 +1,28 @@
--- `pooling::left::count_looked_up` meets its contract. The loop's invariant: the count and what is left to count make up all. Assumes nothing.
-use mathlib.Core.Path.{sym, ap, ◌∙◌}
-use Prim.Native.Nat.{◌+◌}
-use native.Mathlib.Omega.{arith}
-use lib.ListN.{drop}
-use Rattle.training_file.specs.declared.item.Label.TheVariants.{LookedUp}
-use Rattle.training_file.specs.Item.{labelled, same}
-use Rattle.training_file.proofs.Laws.Item.{same_most}
-use Rattle.last_items.specs.Kept.{items_at}
-use Rattle.pooling.proofs.Laws.Left.{labelled_all, labelled_on}
+-- `pooling::left::count_looked_up` meets its contract. Assumes nothing.
+use Rattle.std.proofs.Common.{ℕ, Bool, ap, ◌≡◌, ◌∙◌, sym, rules, tests}
+use Rattle.std.proofs.lemmas.Iterator.{YieldsList-from_slice}
+use Rattle.std.proofs.lemmas.Iterator.Adapters.{serves_from_places}
+use Rattle.std.proofs.lemmas.Iterator.Consumers.{YieldsList-from_filter, count_from_yields_List}
+use Rattle.training_file.specs.Record.{Stored, label_at}
+use Rattle.last_items.proofs.Laws.Kept.{stored_item}
+use Rattle.pooling.proofs.Laws.Left.{counted, looked_up}
 use Rattle.pooling.proofs.left.count_looked_up.Goals as goal
 
-pub loop-k-preserved : goal.loop-k-preserved
-loop-k-preserved c = (
-  omega arith,
-  omega (arith, c.looked_up-looked_up.ensures, same_most LookedUp c.label_at-label.result),
-  ap (λ n. c.loop-k.looked_up + n + labelled LookedUp (items_at c.args.file.now (drop (c.loop-k.k + 1) c.args.numbers.now)))
-      (c.looked_up-looked_up.ensures ∙ ap (same LookedUp) c.label_at-label.ensures)
-      ∙ sym (labelled_on LookedUp c.args.file.now c.args.numbers.now c.loop-k.k c.loop-k.looked_up c.loop-k-test.true)
-      ∙ c.loop-k.invariant.2,
-)
+pub count-requires-clause-can : goal.count-requires-clause-can
+count-requires-clause-can c =
+    let r = c.args.records.now in
+    let file_is : r.file.now ≡ c.filter.result.p.0.now = sym (ap (λ p. p.0.now) c.filter.ensures.closure) in (
+      tt,
+      tt,
+      serves_from_places (YieldsList-from_slice r.numbers.now cc) (λ x q k. search rules)
+          (λ x k h e y at.
+          let here : Stored c.filter.result.p.0.now y.now.now = rw (at, ← file_is) (stored_item _ r.numbers.now r.stored h e) in search rules),
+    )
 
 pub returns : goal.returns
-returns c = sym (labelled_all LookedUp c.args.file.now c.args.numbers.now c.loop-k.k c.loop-k.looked_up (omega arith)) ∙ c.loop-k.invariant.2
+returns c =
+    let r = c.args.records.now in
+    let test : ℕ → Bool = λ k. looked_up (label_at r.file.now k) in
+    count_from_yields_List c.filter.result _ c.count.ensures.ran
+    (YieldsList-from_filter _ test (YieldsList-from_slice r.numbers.now cc) c.filter.ensures.closure (λ x b q k. search (rules, tests)))
+    ∙ counted _ _

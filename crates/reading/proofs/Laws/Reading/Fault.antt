@@ -8,12 +8,13 @@ use Prim.Native.Nat.{ℕ, ◌≤◌}
 use native.Mathlib.Omega.{arith}
 use Rattle.integers.specs.Member.{member}
 use Rattle.training_file.specs.declared.refusal.Refusal.{Refusal}
-use Rattle.training_file.specs.Refusal.{OneOf, reading_refuses, refusal_at}
+use Rattle.training_file.specs.declared.refusal.Refusal.TheVariants as refusal
+use Rattle.training_file.specs.Refusal.{OneOf, number_of, reading_refuses, record_of, refusal_at}
 use Rattle.training_file.specs.Layout.{first_record, next_of, records_stored}
 use Rattle.training_file.specs.Record.{item_at, record_allowed, every}
 use Rattle.training_file.specs.Header.{header_allowed, length_allowed, parameters_of}
 use Rattle.training_file.specs.Item.{both_labels}
-use Rattle.training_file.proofs.Laws.Refusal.{one_of_alone}
+use Rattle.training_file.proofs.Laws.Refusal.{at_number, at_record, one_of_alone}
 use Rattle.training_file.proofs.Laws.Header.{allowed_whole, header_first}
 use Rattle.chain.specs.Walk.{Walk, broken, ends}
 use Rattle.chain.specs.Chain.{ChainIn, FaultIn, chain_of}
@@ -25,45 +26,52 @@ use Rattle.reading.proofs.Laws.Reading.{reads_broken, reads_chain}
 
 module _ (file : List ℕ) where
   abbrev Judged : Reading → Type 0
-  Judged (refused why) = OneOf reading_refuses why × (1 ≤ why.at → FaultIn file why.number why.at)
+  Judged (refused why) = OneOf reading_refuses why × (1 ≤ record_of why → FaultIn file (number_of why) (record_of why))
   Judged (accepted p rs items) = Unit {0}
 
-  unless_judged : (number : ℕ) (test : Bool) (rest : Reading) → member number reading_refuses ≡ true → number ≢ 3 → number ≢ 16 → (test ≡ true → Judged rest)
-      → Judged (unless number test rest)
-  unless_judged number true rest e not-3 not_16 h = h refl
-  unless_judged number false rest e not-3 not_16 h = (one_of_alone reading_refuses number e not-3 not_16, λ b. absurd (omega arith))
+  unless_judged : (why : Refusal) (test : Bool) (rest : Reading) → member (number_of why) reading_refuses ≡ true → number_of why ≢ 3 → number_of why ≢ 16
+      → (test ≡ true → Judged rest) → Judged (unless why test rest)
+  unless_judged why true rest e not-3 not_16 h = h refl
+  unless_judged why false rest e not-3 not_16 h =
+      let one = one_of_alone reading_refuses why e not-3 not_16 in
+      (one, λ b. absurd (omega (arith, one.carried.otherwise not-3 not_16)))
 
   chain_judged : length_allowed file ≡ true → header_allowed file ≡ true → (w : Walk) → chain_of file ≡ w → Judged (read_chain file w)
   chain_judged l h (broken number r) e =
       let f = (chain_broken (next_of file) (records_stored file) (first_record file) number r (header_first file h)).0 e in
       let stored = f.walked.within f.place (omega (arith, f.last)) in
       let most = (allowed_whole file l).most in
-      let is : (number ≡ 3) ⊎ (number ≡ 16) = ⊎_map (λ p. p.0) (λ p. p.0) f.fault in (
+      let is : (number ≡ 3) ⊎ (number ≡ 16) = ⊎_map (λ p. p.0) (λ p. p.0) f.fault in
+      let at = at_record number r in (
         record {
-          listed = ⊎_elim (λ (q : number ≡ 3). ap (λ n. member n reading_refuses) q) (λ (q : number ≡ 16). ap (λ n. member n reading_refuses) q) is;
-          carried = record { at_fault = λ q. (omega (arith, stored.0, f.is), omega (arith, stored.1, f.is)); otherwise = λ not-3 not_16. absurd (⊎_elim not-3 not_16 is) };
+          listed = rw (at_number number r is) (⊎_elim (λ (q : number ≡ 3). ap (λ n. member n reading_refuses) q) (λ (q : number ≡ 16). ap (λ n. member n reading_refuses) q) is);
+          carried =
+              record {
+                at_fault = λ q. (omega (arith, stored.0, f.is, at), omega (arith, stored.1, f.is, at));
+                otherwise = rw (at_number number r is) (λ not-3 not_16. absurd (⊎_elim not-3 not_16 is));
+              };
         },
-        λ b. f,
+        λ b. rw (at_number number r is, at) f,
       )
   chain_judged l h (ends rs) e =
       let items = map (item_at file) rs in
       let read = accepted (parameters_of file) rs items in
-      unless_judged 4 (every (record_allowed (parameters_of file).used file) rs) (unless 5 (both_labels items) read) refl (λ q. omega arith) (λ q. omega arith)
-      (λ t. unless_judged 5 (both_labels items) read refl (λ q. omega arith) (λ q. omega arith) (λ u. tt))
+      unless_judged refusal.Record (every (record_allowed (parameters_of file).used file) rs) (unless refusal.Labels (both_labels items) read) refl (λ q. omega arith) (λ q. omega arith)
+      (λ t. unless_judged refusal.Labels (both_labels items) read refl (λ q. omega arith) (λ q. omega arith) (λ u. tt))
 
   reading_judged : Judged (reading file)
   unfolding reading
   reading_judged =
       let read = read_chain file (chain_of file) in
-      unless_judged 1 (length_allowed file) (unless 2 (header_allowed file) read) refl (λ q. omega arith) (λ q. omega arith)
-      (λ l. unless_judged 2 (header_allowed file) read refl (λ q. omega arith) (λ q. omega arith) (λ h. chain_judged l h (chain_of file) refl))
+      unless_judged refusal.FileLength (length_allowed file) (unless refusal.Header (header_allowed file) read) refl (λ q. omega arith) (λ q. omega arith)
+      (λ l. unless_judged refusal.Header (header_allowed file) read refl (λ q. omega arith) (λ q. omega arith) (λ h. chain_judged l h (chain_of file) refl))
 
   -- reading refuses with the numbers listed for it; 3 and 16 carry a record, "other refusals carry none"
   pub refused_one_of : (why : Refusal) → reading file ≡ refused why → OneOf reading_refuses why
   refused_one_of why e = (subst Judged e reading_judged).0
 
   -- the record carried is on the chain, its next field is at fault, and it is the first on the walk
-  pub refused_at : (why : Refusal) → reading file ≡ refused why → 1 ≤ why.at → FaultIn file why.number why.at
+  pub refused_at : (why : Refusal) → reading file ≡ refused why → 1 ≤ record_of why → FaultIn file (number_of why) (record_of why)
   refused_at why e = (subst Judged e reading_judged).1
 
   -- ---- a file that is refused with neither 1 nor 2

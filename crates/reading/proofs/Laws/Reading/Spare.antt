@@ -7,6 +7,7 @@ use Prim.Native.Nat.{ℕ, suc, ◌+◌, ◌*◌, ◌≤◌, ◌<◌}
 use native.Mathlib.Omega.{arith}
 use lib.ListN.{length, get_or, drop, length-take, length-drop}
 use lib.Seq.{ext_get_or, get_or-drop, get_or-take}
+use Rattle.training_file.specs.declared.refusal.Refusal.TheVariants as refusal
 use Rattle.training_file.specs.declared.parameters.Parameters.{Parameters}
 use Rattle.training_file.specs.declared.item.Item.{Item}
 use Rattle.training_file.specs.Layout.{feature_bytes, feature_count, first_record, le2, le4, le8, next_of, record_start, records_stored, signed_byte}
@@ -144,7 +145,7 @@ module _ (f g : List ℕ) (a : SameChained f g) where
     items_same = map_cong (item_at f) (item_at g) rs item_same
 
     rest_same : read_chain f (ends rs) ≡ read_chain g (ends rs)
-    rest_same = λ k. unless 4 (all_same k) (unless 5 (both_labels (items_same k)) (accepted (parameters_same k) rs (items_same k)))
+    rest_same = λ k. unless refusal.Record (all_same k) (unless refusal.Labels (both_labels (items_same k)) (accepted (parameters_same k) rs (items_same k)))
 
   walked_same : (w : Walk) → chain_of f ≡ w → read_chain f w ≡ read_chain g w
   walked_same (broken number r) e = refl
@@ -153,6 +154,6 @@ module _ (f g : List ℕ) (a : SameChained f g) where
   pub spare_records : reading f ≡ reading g
   unfolding reading
   spare_records =
-      ap₂ (λ (l h : Bool). unless 1 l (unless 2 h (read_chain f (chain_of f)))) length_same header_same
-      ∙ ap (λ (rest : Reading). unless 1 (length_allowed g) (unless 2 (header_allowed g) rest))
+      ap₂ (λ (l h : Bool). unless refusal.FileLength l (unless refusal.Header h (read_chain f (chain_of f)))) length_same header_same
+      ∙ ap (λ (rest : Reading). unless refusal.FileLength (length_allowed g) (unless refusal.Header (header_allowed g) rest))
       (walked_same (chain_of f) refl ∙ ap (read_chain g) chain_same)

@@ -4,7 +4,6 @@ use mathlib.Core.Path.{◌≡◌, refl, sym, subst}
 use Prim.Native.Nat.{◌+◌, ◌*◌, ◌≤◌}
 use native.Mathlib.Omega.{arith}
 use lib.IntN.{ℤ, pos, nat_abs, ◌+ℤ◌, ◌-ℤ◌, ◌*ℤ◌}
-use mir.Facts.{to_z_pos}
 use mir.Syntax.{w64}
 use mir.Val.{to_z, of_z}
 use Rattle.integers.proofs.Laws.Bounds.{+ℤ_bound, -ℤ-bound, *ℤ_bound, fits_width, reads_back}
@@ -13,7 +12,7 @@ use Rattle.dual_problem.specs.Size.{gradient_most, kernel_most, term_most}
 use Rattle.smo_step.proofs.step.shift.Goals as goal
 
 -- what the machine makes of each part, inside out, and how large it can be
-module _ (c : goal.Start) where
+module _ (c : goal.After-from) where
   difference : ℤ
   difference = c.args.kernel_j -ℤ c.args.kernel_i
 
@@ -28,9 +27,9 @@ module _ (c : goal.Start) where
   product : ℤ
   product = pos c.args.amount *ℤ difference
 
-  product_is : to_z w64 c.args.amount *ℤ to_z w64 (of_z w64 (to_z w64 (of_z w64 c.args.kernel_j) -ℤ to_z w64 (of_z w64 c.args.kernel_i))) ≡ product
+  product_is : to_z w64 (of_z w64 c.from.result) *ℤ to_z w64 (of_z w64 (to_z w64 (of_z w64 c.args.kernel_j) -ℤ to_z w64 (of_z w64 c.args.kernel_i))) ≡ product
   unfolding product
-  product_is = λ i. to_z_pos w64 {n = c.args.amount} (omega (arith, c.requires.1)) i *ℤ reads_back w64 difference_is (omega (arith, difference_size)) i
+  product_is = λ i. reads_back w64 c.from.ensures (omega (arith, c.requires.1)) i *ℤ reads_back w64 difference_is (omega (arith, difference_size)) i
 
   product_size : nat_abs product ≤ ceiling_most * (2 * kernel_most)
   unfolding product
@@ -39,7 +38,7 @@ module _ (c : goal.Start) where
   total : ℤ
   total = c.args.value +ℤ product
 
-  total_is : to_z w64 (of_z w64 c.args.value) +ℤ to_z w64 (of_z w64 (to_z w64 c.args.amount *ℤ to_z w64 (of_z w64 (to_z w64 (of_z w64 c.args.kernel_j) -ℤ to_z w64 (of_z w64 c.args.kernel_i))))) ≡ total
+  total_is : to_z w64 (of_z w64 c.args.value) +ℤ to_z w64 (of_z w64 (to_z w64 (of_z w64 c.from.result) *ℤ to_z w64 (of_z w64 (to_z w64 (of_z w64 c.args.kernel_j) -ℤ to_z w64 (of_z w64 c.args.kernel_i))))) ≡ total
   unfolding total
   total_is = λ i. reads_back w64 {m = c.args.value} refl (omega (arith, c.requires.0)) i +ℤ reads_back w64 product_is (omega (arith, product_size)) i
 

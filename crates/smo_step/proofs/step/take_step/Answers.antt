@@ -1,91 +1,80 @@
 -- `smo_step::step::take_step` meets its contract: the laws of a step (Laws/Update.antt), with what was fetched and computed put in the place
 -- of what it is. Assumes nothing.
-use mathlib.Core.Path.{◌≡◌, refl, sym, ◌∙◌, subst, subst₃}
+use mathlib.Core.Path.{◌≡◌, sym, ◌∙◌, subst, subst₂, subst₃}
 use mathlib.Core.List.{List}
-use Prim.Native.Nat.{ℕ, min}
+use Prim.Native.Nat.{ℕ, ◌≤◌}
 use native.Mathlib.Omega.{arith}
-use lib.IntN.{ℤ, pos, nat_abs, ◌-ℤ◌}
+use lib.IntN.{ℤ, pos, ◌-ℤ◌}
 use lib.ListN.{get_or, set}
 use mir.Syntax.{w64}
 use mir.Val.{to_z, of_z}
-use Rattle.integers.proofs.Laws.Bounds.{fits_width, reads_back}
+use Rattle.integers.proofs.Laws.Bounds.{fits_width}
 use Rattle.integers.specs.Written.{written}
-use Rattle.training_file.specs.declared.item.Item.{Item}
-use Rattle.training_file.specs.Item.{item_in}
-use Rattle.reading.specs.Reading.{reading}
-use Rattle.reading.specs.Calls.{items_in}
-use Rattle.dual_problem.specs.Problem.{ceiling_of, at}
-use Rattle.dual_problem.specs.FileProblem.{problem_of}
-use Rattle.working_pair.specs.Step.{slope, lowered, raised, fall, rise, amount}
-use Rattle.working_pair.specs.Curvature.{curvature_between}
-use Rattle.working_pair.specs.Division.{divided, PairGiven}
-use Rattle.smo_step.specs.Update.{updated, Movable, Updatable}
-use Rattle.smo_step.proofs.Laws.Update.{i_listed, j_listed, kept_size, slope_size, step_slope, step_pair, step_movable, step_updatable, step_amount, step_gradient}
-use Rattle.smo_step.proofs.step.take_step.Goals as goal
-use Rattle.training_file.specs.declared.parameters.Parameters.{Parameters}
-use Rattle.training_file.specs.Parameters.{Ranges}
+use Rattle.training_file.specs.Parameters.{ceiling_most}
+use Rattle.dual_problem.specs.declared.problem.FileProblem.{FileProblem}
+use Rattle.dual_problem.specs.Given.{count_in, problem_in}
+use Rattle.working_pair.specs.declared.amount.Holding.{Holding}
+use Rattle.working_pair.specs.Step.{Candidate, amount, fall, lowered, raised, rise}
 use Rattle.working_pair.specs.State.{State}
-use Rattle.working_pair.specs.Step.{Candidate}
+use Rattle.working_pair.specs.Division.{PairGiven, amount_between, holding_at}
+use Rattle.working_pair.proofs.Laws.State.{slope_is, slope_reads, slope_size}
+use Rattle.smo_step.specs.Update.{updated, Updatable}
+use Rattle.smo_step.proofs.Laws.Update.{i_listed, j_listed, step_pair, step_falls, step_rises, step_updatable, step_amount, step_gradient}
+use Rattle.smo_step.proofs.step.take_step.Goals as goal
 
--- the problem, its items, the multipliers and G at the call: g, as the machine has it
-module _ {file order : List ℕ} {n : ℕ} {p : Parameters} {a : List ℕ} {g : List ℤ} {i j : ℕ} (s : State file order n p a g) (r : Ranges p) (pair : Candidate (problem_of file p) a i j) where
-  g_is : to_z w64 (of_z w64 (get_or g i (pos 0))) -ℤ to_z w64 (of_z w64 (get_or g j (pos 0))) ≡ slope (problem_of file p) a i j
-  g_is =
-      (λ t. reads_back w64 {m = get_or g i (pos 0)} refl (omega (arith, kept_size s r pair i (i_listed s r pair))) t
-      -ℤ reads_back w64 {m = get_or g j (pos 0)} refl (omega (arith, kept_size s r pair j (j_listed s r pair))) t)
-      ∙ step_slope s r pair
-
-  g_reads : to_z w64 (of_z w64 (to_z w64 (of_z w64 (get_or g i (pos 0))) -ℤ to_z w64 (of_z w64 (get_or g j (pos 0))))) ≡ slope (problem_of file p) a i j
-  g_reads = reads_back w64 g_is (omega (arith, slope_size s r pair))
-
-  -- the amount, with the two items that were fetched
-  amount_is : {x z : Item} {n : ℕ} → x ≡ item_in (items_in (reading file)) i → z ≡ item_in (items_in (reading file)) j
-      → n ≡ divided (nat_abs (to_z w64 (of_z w64 (to_z w64 (of_z w64 (get_or g i (pos 0))) -ℤ to_z w64 (of_z w64 (get_or g j (pos 0))))))) (nat_abs (curvature_between p x.features z.features)) (min (fall x.label (at a i) (ceiling_of p x.label)) (rise z.label (at a j) (ceiling_of p z.label)))
-      → n ≡ amount (problem_of file p) a i j
+-- the amount, with the two items that were fetched and g as the machine has it
+module _ {f : FileProblem} {a : List ℕ} {g : List ℤ} {i j : ℕ} (s : State f a g) (pair : Candidate (problem_in f) a i j) where
+  amount_is : {x z : Holding} {n : ℕ} → x ≡ holding_at f a i → z ≡ holding_at f a j
+      → n ≡ amount_between f.parameters x z (to_z w64 (of_z w64 (to_z w64 (of_z w64 (get_or g i (pos 0))) -ℤ to_z w64 (of_z w64 (get_or g j (pos 0))))))
+      → n ≡ amount (problem_in f) a i j
   amount_is x_is z_is e =
       e
-      ∙ (λ t. divided (nat_abs (g_reads t)) (nat_abs (curvature_between p (x_is t).features (z_is t).features)) (min (fall (x_is t).label (at a i) (ceiling_of p (x_is t).label)) (rise (z_is t).label (at a j) (ceiling_of p (z_is t).label))))
-      ∙ step_amount s r pair
+      ∙ (λ t. amount_between f.parameters (x_is t) (z_is t) (slope_reads s (i_listed s pair) (j_listed s pair) t))
+      ∙ step_amount s pair
 
-pub fetch-x-requires : goal.fetch-x-requires
-fetch-x-requires c = let p = c.requires in p.0.listed.table.tabled _ (i_listed p.0 p.1 p.2)
-
-pub fetch-z-requires : goal.fetch-z-requires
-fetch-z-requires c = let p = c.requires in p.0.listed.table.tabled _ (j_listed p.0 p.1 p.2)
-
-pub overflow_sub-slope : goal.overflow_sub-slope
-overflow_sub-slope c =
-    let s = c.requires in
-    fits_width w64 (g_is s.0 s.1 s.2) (omega (arith, slope_size s.0 s.1 s.2))
+pub overflow_sub-gradient : goal.overflow_sub-gradient
+overflow_sub-gradient c =
+    let s = c.requires.0 in
+    let i = i_listed s c.requires.2 in
+    let j = j_listed s c.requires.2 in
+    fits_width w64 (slope_is s i j) (omega (arith, slope_size s i j))
 
 pub pair_amount-amount-requires : goal.pair_amount-amount-requires
 pair_amount-amount-requires c =
-    let s = c.requires in
-    let a = c.args.multipliers.now in
-    subst₃ (λ x z d. PairGiven c.args.parameters x (at a c.args.i) z (at a c.args.j) d) (sym c.fetch-x.ensures) (sym c.fetch-z.ensures) (sym (g_reads s.0 s.1 s.2)) (step_pair s.0 s.1 s.2)
+    let s = c.requires.0 in
+    let pair = c.requires.2 in
+    subst₃ (PairGiven c.args.problem.now.parameters) (sym c.at-x.ensures) (sym c.at-z.ensures) (sym (slope_reads s (i_listed s pair) (j_listed s pair))) (step_pair s pair)
 
-pub move_pair-requires : goal.move_pair-requires
-move_pair-requires c =
-    let s = c.requires in
-    let a = c.args.multipliers.now in
-    subst₃ (λ x z n. Movable a c.args.i x.label c.args.j z.label n) (sym c.fetch-x.ensures) (sym c.fetch-z.ensures) (sym (amount_is s.0 s.1 s.2 c.fetch-x.ensures c.fetch-z.ensures c.pair_amount-amount.ensures)) (step_movable s.0 s.1 s.2)
+pub raise-requires : goal.raise-requires
+raise-requires c =
+    let n = amount_is c.requires.0 c.requires.2 c.at-x.ensures c.at-z.ensures c.pair_amount-amount.ensures in
+    rw c.opposite.ensures
+    (subst₂ (λ n (x : Holding). n ≤ fall x.item.label x.multiplier ceiling_most) (sym n) (sym c.at-x.ensures) (step_falls c.requires.0 c.requires.2 c.requires.1))
+
+pub raise-requires-2 : goal.raise-requires-2
+raise-requires-2 c =
+    let n = amount_is c.requires.0 c.requires.2 c.at-x.ensures c.at-z.ensures c.pair_amount-amount.ensures in
+    subst₂ (λ n (z : Holding). n ≤ rise z.item.label z.multiplier ceiling_most) (sym n) (sym c.at-z.ensures) (step_rises c.requires.0 c.requires.2 c.requires.1)
 
 pub update_gradient-requires : goal.update_gradient-requires
 update_gradient-requires c =
-    let s = c.requires in
-    subst (Updatable c.args.file.now c.args.order.now c.args.count c.args.parameters c.args.gradient.now) (sym (amount_is s.0 s.1 s.2 c.fetch-x.ensures c.fetch-z.ensures c.pair_amount-amount.ensures)) (step_updatable s.0 s.1 s.2)
+    let n = amount_is c.requires.0 c.requires.2 c.at-x.ensures c.at-z.ensures c.pair_amount-amount.ensures in
+    subst (Updatable c.args.problem.now c.args.gradient.now) (sym n) (step_updatable c.requires.0 c.requires.2 c.requires.1)
 
-pub returns : goal.returns
-returns c =
-    let s = c.requires in
+pub returns-clause-multipliers : goal.returns-clause-multipliers
+returns-clause-multipliers c =
     let a = c.args.multipliers.now in
-    let g = c.args.gradient.now in
     let i = c.args.i in
     let j = c.args.j in
-    let n = amount_is s.0 s.1 s.2 c.fetch-x.ensures c.fetch-z.ensures c.pair_amount-amount.ensures in record {
-      multipliers = c.move_pair.ensures
-          ∙ (λ t. set (set a i (lowered (c.fetch-x.ensures t).label (at a i) (n t))) j (raised (c.fetch-z.ensures t).label (at a j) (n t)));
-      gradient = c.update_gradient.ensures
-          ∙ (λ t. written c.args.count (updated c.args.parameters (items_in (reading c.args.file.now)) (c.fetch-x.ensures t).features (c.fetch-z.ensures t).features (n t) g) g)
-          ∙ step_gradient s.0 s.1 s.2;
-    }
+    let n = amount_is c.requires.0 c.requires.2 c.at-x.ensures c.at-z.ensures c.pair_amount-amount.ensures in
+    let lowered_is = c.raise.ensures ∙ (λ t. raised (c.opposite.ensures t) c.at-x.result.multiplier c.pair_amount-amount.result) in
+    (λ t. set (set a i (lowered_is t)) j (c.raise-2.ensures t))
+    ∙ (λ t. set (set a i (lowered (c.at-x.ensures t).item.label (c.at-x.ensures t).multiplier (n t))) j (raised (c.at-z.ensures t).item.label (c.at-z.ensures t).multiplier (n t)))
+
+pub returns-clause-gradient : goal.returns-clause-gradient
+returns-clause-gradient c =
+    let g = c.args.gradient.now in
+    let n = amount_is c.requires.0 c.requires.2 c.at-x.ensures c.at-z.ensures c.pair_amount-amount.ensures in
+    c.update_gradient.ensures
+    ∙ (λ t. written (count_in c.args.problem.now) (updated c.args.problem.now (c.at-x.ensures t).item.features (c.at-z.ensures t).item.features (n t) g) g)
+    ∙ step_gradient c.requires.0 c.requires.2

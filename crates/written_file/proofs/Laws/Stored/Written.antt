@@ -4,6 +4,7 @@ use mathlib.Core.Bool.{Bool}
 use mathlib.Core.List.{List, [], ◌∷◌, ◌++◌, map}
 use Prim.Native.Nat.{ℕ, suc, ◌+◌, ◌*◌, ◌≤◌, ◌<◌}
 use native.Mathlib.Omega.{arith}
+use Rattle.std.proofs.lemmas.List.{map-id}
 use lib.IntN.{ℤ, pos}
 use lib.ListN.{length, get_or, drop, length-append, length-map, length-take, length-drop}
 use lib.Seq.{ext_get_or, get_or-append-add, get_or-drop, get_or-take}
@@ -13,6 +14,7 @@ use Rattle.integers.proofs.Laws.Truth.{&&_true}
 use Rattle.training_file.specs.declared.item.Item.{Item}
 use Rattle.training_file.specs.declared.item.Label.TheVariants.{PassedOver}
 use Rattle.training_file.specs.declared.parameters.Parameters.{Parameters}
+use Rattle.training_file.specs.declared.refusal.Refusal.TheVariants.{Header, Labels, Record}
 use Rattle.training_file.specs.Layout.{byte_at, byte_of_signed, feature_bytes, feature_count, next_of, record_start, signed_byte, signed_most}
 use Rattle.training_file.specs.Item.{both_labels, byte_of_label, item_allowed, item_in, item_of}
 use Rattle.training_file.specs.Header.{parameters_of}
@@ -113,21 +115,17 @@ module _ (p : Parameters) (n : ℕ) (label : ℕ → ℕ) (features : ℕ → Li
 
 -- ---- the file of parameters and items that make one up
 
-map_same : {A : Type 0} (list : List A) → map (λ (x : A). x) list ≡ list
-map_same [] = refl
-map_same (x ∷ xs) = ap (λ more. x ∷ more) (map_same xs)
-
 -- "Reading such a file yields the same items and parameters"
 pub reads_back : (p : Parameters) (items : List Item) → Writable p items → reading (file_of p items) ≡ accepted p (numbers_to (length items)) items
 reads_back p items sound =
     stored_read (file_of p items) p (length items) label features
     (file_stores p (length items) label features sound.sixteen (λ k h i. omega (arith, most k h i)))
     items none allowed (λ (item : Item). item) refl sound.most (λ k h. refl) (λ k h. known (item_in items k))
-    ∙ ap₂ (λ t e. unless 2 t (unless 4 e (unless 5 (both_labels (map (λ (item : Item). item) items)) (accepted p (numbers_to (length items)) (map (λ (item : Item). item) items)))))
+    ∙ ap₂ (λ t e. unless Header t (unless Record e (unless Labels (both_labels (map (λ (item : Item). item) items)) (accepted p (numbers_to (length items)) (map (λ (item : Item). item) items)))))
     sound.parameters
     (every_true allowed none items (λ k h. &&_true (label_byte_allowed (item_in items k).label) (sound.features k h)))
-    ∙ ap (λ (list : List Item). unless 5 (both_labels list) (accepted p (numbers_to (length items)) list)) (map_same items)
-    ∙ ap (λ t. unless 5 t (accepted p (numbers_to (length items)) items)) sound.labels
+    ∙ ap (λ (list : List Item). unless Labels (both_labels list) (accepted p (numbers_to (length items)) list)) (map-id items)
+    ∙ ap (λ t. unless Labels t (accepted p (numbers_to (length items)) items)) sound.labels
   where
     label : ℕ → ℕ
     label k = byte_of_label (item_in items k).label

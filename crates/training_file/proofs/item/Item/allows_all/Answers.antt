@@ -15,25 +15,25 @@ pub returns-then-not-zero_past : goal.returns-then-not-zero_past
 unfolding features_allowed
 returns-then-not-zero_past c = sym (&&_false_right (each_feature_allowed c.args.features) (sym c.zero_past.ensures ∙ c.if-not-zero_past.true))
 
-pub loop-i-init : goal.loop-i-init
+pub loop-feature-init : goal.loop-feature-init
 unfolding all
-loop-i-init c = (omega arith, refl)
+loop-feature-init c = refl
 
 pub returns-then-not-allows : goal.returns-then-not-allows
 unfolding features_allowed
 returns-then-not-allows c =
-    let answer : allowed_at c.args.features c.loop-i.i ≡ c.allows.result = sym (c.allows.ensures ∙ ap feature_allowed (reads_element w8 (get_or c.args.features c.loop-i.i (pos 0)) (search rules))) in
+    let answer : allowed_at c.args.features c.loop-feature.feature-index ≡ c.allows.result = sym (c.allows.ensures ∙ ap feature_allowed (reads_element w8 (get_or c.args.features c.loop-feature.feature-index (pos 0)) (search rules))) in
     sym
     (&&_false_left (zero_past c.args.used c.args.features)
-    (all_fails (allowed_at c.args.features) feature_count c.loop-i.i (omega arith) (answer ∙ c.if-not-allows.true)))
+    (all_fails (allowed_at c.args.features) feature_count c.loop-feature.feature-index (omega arith) (answer ∙ c.if-not-allows.true)))
 
-pub loop-i-preserved : goal.loop-i-preserved
-loop-i-preserved c =
-    let answer : allowed_at c.args.features c.loop-i.i ≡ c.allows.result = sym (c.allows.ensures ∙ ap feature_allowed (reads_element w8 (get_or c.args.features c.loop-i.i (pos 0)) (search rules))) in
-    (omega arith, rw add-one (all_suc (allowed_at c.args.features) c.loop-i.i c.loop-i.invariant.1 (answer ∙ c.if-not-allows.false)))
+pub loop-feature-preserved : goal.loop-feature-preserved
+loop-feature-preserved c =
+    let answer : allowed_at c.args.features c.loop-feature.feature-index ≡ c.allows.result = sym (c.allows.ensures ∙ ap feature_allowed (reads_element w8 (get_or c.args.features c.loop-feature.feature-index (pos 0)) (search rules))) in
+    rw add-one (all_suc (allowed_at c.args.features) c.loop-feature.feature-index c.loop-feature.invariant (answer ∙ c.if-not-allows.false))
 
 pub returns : goal.returns
 unfolding features_allowed
 returns c =
-    let e : c.loop-i.i ≡ feature_count = omega arith in
-    sym (&&_true (ap (λ k. all k (allowed_at c.args.features)) (sym e) ∙ c.loop-i.invariant.1) (sym c.zero_past.ensures ∙ c.if-not-zero_past.false))
+    let e : c.loop-feature.feature-index ≡ feature_count = omega arith in
+    sym (&&_true (ap (λ k. all k (allowed_at c.args.features)) (sym e) ∙ c.loop-feature.invariant) (sym c.zero_past.ensures ∙ c.if-not-zero_past.false))

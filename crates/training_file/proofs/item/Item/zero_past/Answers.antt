@@ -33,4 +33,4 @@ pub returns : goal.returns
 returns c =
     let features = c.args.features in
     let all : c.loop-i.i ≡ feature_count = omega arith in
-    ends_decides features c.loop-i.end c.args.used (subst (Ends features c.loop-i.end) all c.loop-i.invariant.1)
+    ends_decides features c.loop-i.end c.args.used (subst (Ends features c.loop-i.end) all c.loop-i.invariant)

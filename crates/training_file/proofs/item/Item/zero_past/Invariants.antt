@@ -3,11 +3,10 @@
 use mathlib.Core.Path.{◌≡◌}
 use mathlib.Core.Bool.{Bool, true, false}
 use mathlib.Core.List.{List}
-use Prim.Native.Nat.{ℕ, suc, ◌-◌, ◌≤◌, ◌<◌}
+use Prim.Native.Nat.{ℕ, suc, ◌≤◌, ◌<◌}
 use lib.IntN.{ℤ, pos}
 use lib.ListN.{get_or}
 use Rattle.integers.specs.Zero.{is_zero}
-use Rattle.training_file.specs.Layout.{feature_count}
 use Rattle.training_file.proofs.item.Item.zero_past.Given as goal
 
 abbrev pub zero_at : List ℤ → ℕ → Bool
@@ -19,7 +18,4 @@ Ends features end i =
     (end ≤ i) × ((k : ℕ) → k < i → end ≤ k → zero_at features k ≡ true) × ((k : ℕ) → suc k ≡ end → zero_at features k ≡ false)
 
 abbrev pub invariant-loop-i : goal.invariant-loop-i
-invariant-loop-i l = (l.i ≤ feature_count) × Ends l.features l.end l.i
-
-abbrev pub decreases-loop-i : goal.decreases-loop-i
-decreases-loop-i l = feature_count - l.i
+invariant-loop-i l = Ends l.feature-items l.end l.i
