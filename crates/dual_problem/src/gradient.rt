@@ -36,15 +36,17 @@ fn addend(problem: &FileProblem, multiplier: u32, x: Item, place: usize) -> i64
     term(multiplier, z.label, kernel_value(problem.parameters, x, z))
 }
 
-// The kernel values of an item with each item of the file, weighed with the multipliers and the labels' signs.
+// The kernel values of an item with each item of the file, weighed with the multipliers and the labels' signs. The loop goes over a copy of the
+// problem: behind the reference the kernel would be looked up, and chosen by, at each item, and not once ahead of the loop.
 pub fn weighed_sum(problem: &FileProblem, multipliers: &[u32], x: Item) -> i64
     requires { MultipliersFit problem.now multipliers.now }
     ensures value { result ≡ weighed_with problem.now.file.now problem.now.parameters x.features (at multipliers.now) }
     ensures size { nat_abs result ≤ weighed_most }
 {
+    let problem = *problem;
     let mut sum: i64 = 0;
     for j in 0..problem.count() {
-        sum += addend(problem, multipliers[j], x, j);
+        sum += addend(&problem, multipliers[j], x, j);
     }
     sum
 }

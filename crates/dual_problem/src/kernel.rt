@@ -74,11 +74,14 @@ pub fn kernel_of_features(parameters: Parameters, xs: &[i8], zs: &[i8]) -> i64
     }
 }
 
-// K of two items, as document 01 has it: a line over the function on lent features.
+// K of two items, as document 01 has it: thin, over the function on lent features. These are lent from arrays of their own, since for
+// `&x.features` the whole item is copied.
 pub fn kernel_value(parameters: Parameters, x: Item, z: Item) -> i64
     requires { parameters.used ≤ feature_count }
     ensures value { result ≡ kernel_between parameters x.features z.features }
     ensures size { nat_abs result ≤ kernel_most }
 {
-    kernel_of_features(parameters, &x.features, &z.features)
+    let xs = x.features;
+    let zs = z.features;
+    kernel_of_features(parameters, &xs, &zs)
 }

@@ -6,7 +6,7 @@ ghost use Rattle.libsvm_text.specs.Form.{value_text};
 ghost use Rattle.libsvm_text.specs.Items.{signed_number};
 ghost use Rattle.libsvm_text.specs.Read.{ReadsGroup, ReadsNumber, ReadsValue, leading, leading_value, leads};
 
-use super::numeral::read_digits;
+use super::numeral::{is_leading, read_digits};
 use super::place::{Found, Place};
 
 // A feature number and its feature, none where the value is outside the range. Nothing compares or prints one.
@@ -64,19 +64,26 @@ fn read_value(from: Place) -> Option<Found<Option<i8>>>
     })
 }
 
-// A feature number above the last one and at most `used`, with a colon after it, which is the place after it.
+// A feature number above the last one and at most `used`, with a colon after it, which is the place after it. It has two digits at most: where
+// a third follows, no colon does, and no byte after it is looked at.
 #[inline(always)]
 fn read_number(from: Place, last: usize) -> Option<Found<usize>>
     ensures { ReadsNumber from.entry.used last from.entry.text.now from.entry.at result }
 {
-    let Place { text, used, .. } = from;
-    let digits = read_digits(from)?;
-    let number = digits.what?;
-    if last < number && number <= used && text[digits.end] == b':' {
-        Some(Found {
-            what: number,
-            end: digits.end,
-        })
+    let Place { text, used, at } = from;
+    let first = text[at];
+    if !is_leading(first) {
+        return None;
+    }
+    let one = (first - b'0') as usize;
+    let second = text[at + 1];
+    let (number, end) = if second.is_ascii_digit() {
+        (one * 10 + (second - b'0') as usize, at + 2)
+    } else {
+        (one, at + 1)
+    };
+    if last < number && number <= used && text[end] == b':' {
+        Some(Found { what: number, end })
     } else {
         None
     }

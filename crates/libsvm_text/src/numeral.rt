@@ -9,7 +9,7 @@ use super::place::{Found, Place};
 use training_file::item::Item;
 
 // Whether a byte is a digit that may be the first of several.
-fn is_leading(byte: u8) -> bool
+pub fn is_leading(byte: u8) -> bool
     ensures { result ≡ leads byte }
 {
     matches!(byte, b'1'..=b'9')
@@ -32,7 +32,7 @@ fn digits_in(text: &[u8]) -> usize
 
 // The digits at a place, of which the first may be the first of several: the number that they say, none where it is past every limit. Up to the
 // third they are read one by one: a loop over all of them was tried and is slower, with 1.75 times plain C's time and more on a text, where this
-// took 1.05. It is inlined, as what reads values, numbers and groups by it is: a text then takes 0.86 of the time that it takes without.
+// took 1.05. It is inlined, as what reads values, numbers and groups is: a text then takes 0.86 of the time that it takes without.
 #[inline(always)]
 pub fn read_digits(from: Place) -> Option<Found<Option<usize>>>
     ensures { ReadsDigits from.entry.text.now from.entry.at result }

@@ -134,7 +134,9 @@ impl Item {
         }
     }
 
-    // The same of a label's byte and features of which the first `used` are in use; none where these are not allowed.
+    // The same of a label's byte and features of which the first `used` are in use; none where these are not allowed. Inlined, so that who judges
+    // an item and asks for its label alone doesn't have the `Option` put into memory.
+    #[inline(always)]
     pub fn new(label: u8, features: [i8; Item::FEATURE_COUNT], used: usize) -> Option<Item>
         ensures { result ≡ item_answer used label features }
     {

@@ -25,6 +25,7 @@ pub fn judge_rows(rows: &[Row], used: usize) -> Result<usize, Refusal>
 }
 
 // The records of judged rows, one after the other.
+#[inline(always)]
 pub fn put_rows(out: &mut Cursor, rows: &[Row])
     requires room { Room (item_records (row_items rows.now) (length rows.now) (length rows.now)) out.old }
     requires most { length rows.now ≤ records_most }

@@ -11,6 +11,7 @@ use buffer::put::Cursor;
 use training_file::parameters::Parameters;
 
 // The header of a file of so many records, all of them on its chain.
+#[inline(always)]
 pub fn put_header(out: &mut Cursor, records: usize, parameters: Parameters)
     requires room { Room (header_bytes records parameters) out.old }
     requires most { (records ≤ records_most) × (parameters.used ≤ feature_count) }

@@ -32,7 +32,9 @@ fn feature_bytes(features: &[i8; Item::FEATURE_COUNT]) -> [u8; Item::FEATURE_COU
 
 // The record of an item, with the number of the record that follows it.
 // Rows, numbers of records and lines of a text each have their own loop over it, of three lines: one loop for all would take a closure and a
-// ghost list of the items that it gives, and be longer.
+// ghost list of the items that it gives, and be longer. It is inlined, as `put_header` and `put_rows` are: the cursor's place then need not be stored
+// and read back at each put.
+#[inline(always)]
 pub fn put_record(out: &mut Cursor, next: u16, item: Item)
     requires { Room (item_record next item) out.old }
     ensures { Put (item_record next item) out.old out.new }

@@ -1,8 +1,8 @@
 -- Laws of `Put`: bytes put after bytes. Assumes nothing.
-use Rattle.std.proofs.Common.{◌≡◌, refl, sym, ◌∙◌, ap, subst, List, [], ◌∷◌, ◌++◌, append_assoc, ℕ, suc, ◌+◌, ◌≤◌, arith, length, drop, length-append}
+use Rattle.std.proofs.Common.{◌≡◌, refl, sym, ◌∙◌, ap, subst, List, [], ◌∷◌, ◌++◌, append_assoc, ℕ, suc, ◌+◌, ◌≤◌, ◌<◌, arith, length, get_or, set, take, drop, length-append}
 use Rattle.std.proofs.lemmas.List.{drop-drop}
 use Rattle.std.proofs.lemmas.List.Edits.{sets, sets-eq}
-use Rattle.std.proofs.Math.Seq.{length-sets}
+use Rattle.std.proofs.Math.Seq.{length-sets, length-take-le, take-suc}
 use borrow.Rule.Slice.PartMut.{put_mid}
 use Rattle.buffer.specs.declared.put.Cursor.{Cursor}
 use Rattle.buffer.specs.Put.{Put, Room}
@@ -14,6 +14,13 @@ copied i k l part bytes fits whole same = rw (sets-eq bytes l i fits, same, whol
 sets-append : (xs ys l : List ℕ) (i : ℕ) → sets l i (xs ++ ys) ≡ sets (sets l i xs) (i + length xs) ys
 sets-append [] ys l i = let e : i ≡ i + 0 = omega arith in ap (λ j. sets l j ys) e
 sets-append (x ∷ xs) ys l i = let e : suc i + length xs ≡ i + suc (length xs) = omega arith in sets-append xs ys _ (suc i) ∙ ap (λ j. sets (sets l i (x ∷ xs)) j ys) e
+
+-- one more of the bytes
+pub sets-take : (bytes l : List ℕ) (i k : ℕ) → k < length bytes → set (sets l i (take k bytes)) (i + k) (get_or bytes k 0) ≡ sets l i (take (suc k) bytes)
+sets-take bytes l i k h =
+    ap (λ n. set (sets l i (take k bytes)) (i + n) (get_or bytes k 0)) (sym (length-take-le k bytes (omega arith)))
+    ∙ sym (sets-append (take k bytes) (get_or bytes k 0 ∷ []) l i)
+    ∙ ap (sets l i) (sym (take-suc bytes k 0 h))
 
 module _ {xs : List ℕ} {before after : Cursor} (p : Put xs before after) where
   pub put-length : length after.bytes.now ≡ length before.bytes.now

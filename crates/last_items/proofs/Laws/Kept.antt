@@ -2,28 +2,32 @@
 use mathlib.Core.Path.{◌≡◌, refl, sym, ◌∙◌, ap, subst}
 use mathlib.Core.Bool.{Bool, true, false, ◌||◌, not, cond}
 use mathlib.Core.List.{List, [], ◌∷◌, ◌++◌, map, append-nil}
-use Prim.Native.Nat.{ℕ, zero, suc, ◌+◌, ◌-◌, ◌≤◌, ◌<◌, suc-le-suc}
-use native.Mathlib.Nat.{le_of_suc-le-suc, le_trans}
+use Prim.Native.Nat.{ℕ, suc, ◌+◌, ◌-◌, ◌≤◌, ◌<◌, suc-le-suc}
+use native.Mathlib.Nat.{le_trans}
 use native.Mathlib.Numerals.{add-one}
+use native.Mathlib.Decide.{dec_lt}
 use native.Mathlib.Omega.{arith}
 use borrow.Author.Tests.{eqb-false}
 use lib.Dec.{eqb}
 use Rattle.std.proofs.Common.{nat_eq}
-use Rattle.std.specs.List.{filter, list_any, zip}
+use Rattle.std.specs.Int.{w64, to_le_bytes}
+use Rattle.std.specs.List.{list_any}
 use Rattle.std.specs.Str.{bytes_eq}
-use Rattle.std.proofs.lemmas.Bool.Decides.{Decides-eqb, same_from_decides}
+use Rattle.std.proofs.lemmas.Bool.Decides.{Decides-eqb, Decides-like, same_from_decides}
 use Rattle.std.proofs.lemmas.Grind.{get_or_default_zero}
+use Rattle.std.proofs.lemmas.List.{take-append-drop}
+use Rattle.std.proofs.lemmas.Nat.{le_bytes_8}
 use Rattle.std.proofs.lemmas.Slice.Eq.{bytes_eq-Decides}
 use lib.IntN.{pos}
-use lib.ListN.{length, get_or, set, take, drop, length-drop, length-set, drop_of_length-le, get_or-map}
-use lib.Seq.{append_snoc, drop-cons, drop-drop, drop-set-lt, ext_get_or, get_or-drop, take_all, take-set-le, take-suc-set}
+use lib.ListN.{length, get_or, set, take, drop, length-take, length-drop, length-set, drop_of_length-le, get_or-eq_default, get_or-map}
+use lib.Seq.{append_snoc, drop-cons, drop-drop, drop-set-lt, ext_get_or, get_or-drop, get_or-take, take_all, take-set-le, take-suc-set}
 use Rattle.integers.specs.Equal.{equal}
 use Rattle.integers.specs.Member.{member}
 use Rattle.integers.proofs.Laws.Equal.{equal_is, equal_same}
 use Rattle.integers.proofs.Laws.Places.{all_holds, all_true}
 use Rattle.integers.proofs.Laws.Truth.{not_true_false, ||_neither}
 use Rattle.training_file.specs.declared.item.Item.{Item}
-use Rattle.training_file.specs.Layout.{byte_at, byte_of_signed, feature_bytes, feature_count, signed_byte}
+use Rattle.training_file.specs.Layout.{byte_at, byte_of_signed, feature_bytes, feature_count, le8, signed_byte}
 use Rattle.training_file.specs.Record.{Stored, features_at, item_at}
 use Rattle.training_file.proofs.Laws.Layout.{signed_byte_back}
 use Rattle.training_file.proofs.Laws.Record.{bytes_sixteen, feature_bytes_small}
@@ -40,6 +44,41 @@ member_any r (x ∷ rs) = λ i. either_way i || member_any r rs i
   where
     either_way : nat_eq x r ≡ eqb r x
     either_way = let d = Decides-eqb r x in same_from_decides _ _ (Decides-eqb x r) ((λ e. sym (d.0 e)), (λ e. d.1 (sym e)))
+
+-- ---- sixteen bytes by the two numbers that they make
+
+module _ (bytes : List ℕ) (small : (i : ℕ) → byte_at bytes i < 256) where
+  -- eight bytes from a place on are those of their number
+  eight : (at : ℕ) → at + 8 ≤ length bytes → to_le_bytes w64 (le8 bytes at) ≡ take 8 (drop at bytes)
+  eight at inside =
+      le_bytes_8 part (le8 bytes at) (simp (length-take, length-drop) (omega arith)) (λ i. part_small i (dec_lt i 8))
+      (omega (
+        arith,
+        place 0 at (omega arith),
+        place 1 (at + 1) (omega arith),
+        place 2 (at + 2) (omega arith),
+        place 3 (at + 2 + 1) (omega arith),
+        place 4 (at + 4) (omega arith),
+        place 5 (at + 4 + 1) (omega arith),
+        place 6 (at + 4 + 2) (omega arith),
+        place 7 (at + 4 + 2 + 1) (omega arith),
+      ))
+    where
+      part : List ℕ
+      part = take 8 (drop at bytes)
+
+      place : (i j : ℕ) → (i < 8) × (at + i ≡ j) → byte_at part i ≡ byte_at bytes j
+      place i j h = get_or-take 8 (drop at bytes) i 0 h.0 ∙ get_or-drop at bytes i 0 ∙ ap (byte_at bytes) h.1
+
+      part_small : (i : ℕ) → Dec (i < 8) → byte_at part i < 256
+      part_small i (yes l) = let b = small (at + i) in omega (arith, place i (at + i) (l, refl))
+      part_small i (no l) = omega (arith, get_or-eq_default part 0 {n = i} (omega (arith, length-take 8 (drop at bytes))))
+
+  -- so sixteen are those of both
+  parts : length bytes ≡ feature_count → bytes ≡ to_le_bytes w64 (le8 bytes 0) ++ to_le_bytes w64 (le8 bytes 8)
+  parts sixteen =
+      let rest : take 8 (drop 8 bytes) ≡ drop 8 bytes = take_all 8 (drop 8 bytes) (omega (arith, length-drop 8 bytes)) in
+      sym (take-append-drop 8 bytes) ∙ (λ k. sym (eight 0 (omega arith)) k ++ (sym rest ∙ sym (eight 8 (omega arith))) k)
 
 -- ---- two records with the same features have the same bytes there
 
@@ -72,6 +111,29 @@ module _ (left right : List ℕ) (small-left : (i : ℕ) → byte_at left i < 25
       → r ≡ same_features feature_count (item_at left a) (item_at right b)
   bytes_decide r e = e ∙ same_from_decides _ _ (bytes_eq-Decides _ _) (same_bytes, bytes_same)
 
+  -- a first half that differs decides, and otherwise the second does
+  abbrev half-left : ℕ → ℕ
+  half-left at = le8 (feature_bytes left a) at
+
+  abbrev half-right : ℕ → ℕ
+  half-right at = le8 (feature_bytes right b) at
+
+  half_decides : (at : ℕ) → (half-left at ≡ half-right at → feature_bytes left a ≡ feature_bytes right b)
+      → eqb (half-left at) (half-right at) ≡ same_features feature_count (item_at left a) (item_at right b)
+  half_decides at whole =
+      bytes_decide _ (same_from_decides _ _ (Decides-like _ whole (ap (λ (bytes : List ℕ). le8 bytes at)) (Decides-eqb _ _)) (bytes_eq-Decides _ _))
+
+  pub first_differs : (half-left 0 ≡ half-right 0 → ⊥) → eqb (half-left 0) (half-right 0) ≡ same_features feature_count (item_at left a) (item_at right b)
+  first_differs other = half_decides 0 (λ e. absurd (other e))
+
+  pub second_decides : half-left 0 ≡ half-right 0 → eqb (half-left 8) (half-right 8) ≡ same_features feature_count (item_at left a) (item_at right b)
+  second_decides first =
+      half_decides 8
+      (λ second.
+      parts (feature_bytes left a) (feature_bytes_small left small-left a) (bytes_sixteen left a stored-a)
+      ∙ (λ k. to_le_bytes w64 (first k) ++ to_le_bytes w64 (second k))
+      ∙ sym (parts (feature_bytes right b) (feature_bytes_small right small-right b) (bytes_sixteen right b stored-b)))
+
 -- ---- a search of records
 
 -- a part that goes to the end
@@ -81,32 +143,6 @@ part_from l k = take_all (length l - k) (drop k l) (omega (arith, length-drop k 
 -- one of the records stands in the file
 pub stored_item : (file numbers : List ℕ) → AllStored file numbers → {r k : ℕ} → k < length numbers → r ≡ get_or numbers k r → Stored file r
 stored_item file numbers stored {r} {k} h e = subst (Stored file) (sym (e ∙ get_or_default_zero numbers k r h)) (stored k h)
-
--- the same of one beside its hash
-stored_pair : (file numbers hashes : List ℕ) → AllStored file numbers → (p : ℕ × ℕ) (k : ℕ) → k < length (zip numbers hashes)
-    → p ≡ get_or (zip numbers hashes) k p → Stored file p.0
-stored_pair file [] hashes stored p k h e = absurd (omega arith)
-stored_pair file (r ∷ numbers) [] stored p k h e = absurd (omega arith)
-stored_pair file (r ∷ numbers) (x ∷ hashes) stored p zero h e = subst (λ (pair : ℕ × ℕ). Stored file pair.0) (sym e) (stored 0 (omega arith))
-stored_pair file (r ∷ numbers) (x ∷ hashes) stored p (suc k) h e = stored_pair file numbers hashes (λ j l. stored (suc j) (suc-le-suc l)) p k (le_of_suc-le-suc h) e
-
--- what holds of each of a list holds of each that passes a test
-module _ {A : Type 0} (P : A → Type 0) (test : A → Bool) where
-  passed : (xs : List A) → ((x : A) (k : ℕ) → k < length xs → x ≡ get_or xs k x → P x)
-      → (x : A) (k : ℕ) → k < length (filter test xs) → x ≡ get_or (filter test xs) k x → P x
-  passed [] each = each
-  passed (y ∷ ys) each = by (test y) (passed ys (λ x k h e. each x (suc k) (suc-le-suc h) e))
-    where
-      by : (t : Bool) → ((x : A) (k : ℕ) → k < length (filter test ys) → x ≡ get_or (filter test ys) k x → P x)
-          → (x : A) (k : ℕ) → k < length (cond t (y ∷ filter test ys) (filter test ys)) → x ≡ get_or (cond t (y ∷ filter test ys) (filter test ys)) k x → P x
-      by false rest x k h e = rest x k h e
-      by true rest x zero h e = each x 0 (omega arith) e
-      by true rest x (suc k) h e = rest x k (le_of_suc-le-suc h) e
-
--- one beside its hash that passes a test stands in the file
-pub stored_hashed : (test : ℕ × ℕ → Bool) (file numbers hashes : List ℕ) → AllStored file numbers → (p : ℕ × ℕ) (k : ℕ)
-    → k < length (filter test (zip numbers hashes)) → p ≡ get_or (filter test (zip numbers hashes)) k p → Stored file p.0
-stored_hashed test file numbers hashes stored = passed (λ p. Stored file p.0) test (zip numbers hashes) (stored_pair file numbers hashes stored)
 
 -- the rest of a list of records that all stand in the file
 pub stored-drop : (file numbers : List ℕ) (k : ℕ) → AllStored file numbers → AllStored file (drop k numbers)
@@ -129,29 +165,12 @@ module _ (left : List ℕ) (small-left : (i : ℕ) → byte_at left i < 256) (a 
           (λ h. eqb-false (hash_at left a) (hash_at file r) (||_neither (eqb (hash_at left a) (hash_at file r)) _ none).0
           (ap hash (same_bytes left file small-left small a r stored-a (stored 0 (omega arith)) h)))
 
-  -- the features are repeated just where one of the records that have the hash has them
-  pub repeated_hashed : (numbers : List ℕ) → AllStored file numbers
-      → list_any (λ (p : ℕ × ℕ). same_features feature_count (item_at left a) (item_at file p.0))
-      (filter (λ (p : ℕ × ℕ). nat_eq p.1 (hash_at left a)) (zip numbers (hashes_at file numbers)))
-      ≡ repeated feature_count (item_at left a) (items_at file numbers)
-  unfolding repeated
-  repeated_hashed [] stored = refl
-  repeated_hashed (r ∷ numbers) stored =
-      by (repeated_hashed numbers (λ k h. stored (suc k) (suc-le-suc h))) (nat_eq (hash_at file r) (hash_at left a)) refl
-    where
-      test : ℕ × ℕ → Bool
-      test p = same_features feature_count (item_at left a) (item_at file p.0)
-
-      rest : List (ℕ × ℕ)
-      rest = filter (λ (p : ℕ × ℕ). nat_eq p.1 (hash_at left a)) (zip numbers (hashes_at file numbers))
-
-      by : list_any test rest ≡ repeated feature_count (item_at left a) (items_at file numbers) → (t : Bool) → nat_eq (hash_at file r) (hash_at left a) ≡ t
-          → list_any test (cond t ((r, hash_at file r) ∷ rest) rest) ≡ same_features feature_count (item_at left a) (item_at file r) || repeated feature_count (item_at left a) (items_at file numbers)
-      by more true e = ap (λ t. test (r, hash_at file r) || t) more
-      by more false e =
-          more
-          ∙ ap (λ t. t || repeated feature_count (item_at left a) (items_at file numbers))
-          (sym (not_true_false _ (λ same. eqb-false _ _ e (sym (ap hash (same_bytes left file small-left small a r stored-a (stored 0 (omega arith)) same))))))
+-- the features are repeated just where one of the records has them
+pub repeated_any : (d : ℕ) (item : Item) (file numbers : List ℕ)
+    → list_any (λ (r : ℕ). same_features d item (item_at file r)) numbers ≡ repeated d item (items_at file numbers)
+unfolding repeated
+repeated_any d item file [] = refl
+repeated_any d item file (r ∷ numbers) = ap (λ t. same_features d item (item_at file r) || t) (repeated_any d item file numbers)
 
 -- ---- the numbers of those that stay, moved to the first places
 
@@ -163,6 +182,9 @@ module _ (file : List ℕ) (later : List Item) where
     pub places : length numbers ≡ length before
     pub rest : drop k numbers ≡ drop k before
     pub so_far : take kept numbers ++ staying_at file later (drop k before) ≡ staying_at file later before
+
+  pub keeping_none : (numbers : List ℕ) → Keeping numbers numbers 0 0
+  keeping_none numbers = record { below = omega arith; within = omega arith; places = refl; rest = refl; so_far = refl }
 
   module _ (before numbers : List ℕ) (kept k : ℕ) (so : Keeping before numbers kept k) where
     -- the number at place k has not been moved, nor has any after it

@@ -2,9 +2,9 @@
 use mathlib.Core.Path.{◌≡◌, refl, sym, ◌∙◌, ap, subst}
 use mathlib.Core.Bool.{Bool, true, false, ◌&&◌, and-true, cond}
 use mathlib.Core.List.{List, [], ◌∷◌}
-use Prim.Native.Nat.{ℕ, ◌+◌, ◌≤◌, ◌<◌}
+use Prim.Native.Nat.{ℕ, ◌+◌, ◌-◌, ◌*◌, ◌≤◌, ◌<◌}
 use native.Mathlib.Omega.{arith}
-use borrow.Author.Tests.{eqb-true, leb-true, ltb-true}
+use borrow.Author.Tests.{eqb-true, leb-true, ltb-true, ne_eqb}
 use lib.Dec.{eqb, leb, ltb}
 use lib.ListN.{drop, get_or, length}
 use lib.Seq.{drop-drop, get_or-drop}
@@ -12,6 +12,7 @@ use Rattle.std.specs.Prelude.{ℤ, Option, None, Some}
 use Rattle.integers.proofs.Laws.Truth.{&&_false_right, &&_left, &&_right, clash, not_true_false}
 use Rattle.text.specs.Decimal.{value}
 use Rattle.training_file.specs.Item.{feature_most}
+use Rattle.training_file.specs.Layout.{feature_count}
 use Rattle.libsvm_text.specs.declared.place.Found.{Found}
 use Rattle.libsvm_text.specs.Form.{Value, digit, number, numeral, value_formed, value_text}
 use Rattle.libsvm_text.specs.Read.{
@@ -26,7 +27,19 @@ use Rattle.libsvm_text.specs.Read.{
   leads,
   number_leads,
 }
-use Rattle.libsvm_text.proofs.Laws.Numeral.{leading_from, leading_stops, nought_only, numeral_led}
+use Rattle.libsvm_text.proofs.Laws.Numeral.{
+  digit_most,
+  leading_from,
+  leading_stops,
+  leading_three,
+  leads_digit,
+  leads_least,
+  nought_only,
+  numeral_led,
+  reads_one,
+  reads_two,
+  three_least,
+}
 
 -- a number that starts with `0` is 0, and above none
 nought_never : (last : ℕ) (more : List ℕ) → numeral (48 ∷ more) ≡ true → last < number (48 ∷ more) → ⊥
@@ -102,6 +115,37 @@ module _ (d last : ℕ) (text : List ℕ) (start : ℕ) where
       pub number_found : (ltb last told && leb told d) && eqb (get_or text read.end 0) 58 ≡ true
           → NumberFound d last text start (record { what = told; end = read.end })
       number_found all = record { leads_is = tested ∙ all; number_is = number_told; end_is = found.end_is }
+
+  -- ---- the feature number, by its first two digits at most
+
+  -- the number that they say, and the place after them: where a colon is there, they are all
+  pub record ShortRead (read : ℕ × ℕ) : Type 0 where
+    pub tested : number_leads d last rest ≡ (ltb last read.0 && leb read.0 d) && eqb (get_or text read.1 0) 58
+    pub found : number_leads d last rest ≡ true → NumberFound d last text start (record { what = read.0; end = read.1 })
+
+  short_all : {read : ℕ × ℕ} → DigitsFound text start (record { what = Some read.0; end = read.1 }) → ShortRead read
+  short_all all = record { tested = tested all refl; found = λ leads. number_found all refl (sym (tested all refl) ∙ leads) }
+
+  module _ (led : leads (get_or text start 0) ≡ true) {read : ℕ × ℕ} where
+    pub short_one : digit (get_or text (start + 1) 0) ≡ false → read ≡ (get_or text start 0 - 48, start + 1) → ShortRead read
+    short_one stop is = subst ShortRead (sym is) (short_all (reads_one text start led stop))
+
+    -- where a third digit follows, no colon does, and the number that all of them say is past every feature
+    pub short_two : d ≤ feature_count → digit (get_or text (start + 1) 0) ≡ true
+        → read ≡ ((get_or text start 0 - 48) * 10 + (get_or text (start + 1) 0 - 48), start + 2) → ShortRead read
+    short_two few second is = subst ShortRead (sym is) (by (digit (get_or text (start + 2) 0)) refl)
+      where
+        by : (t : Bool) → digit (get_or text (start + 2) 0) ≡ t
+            → ShortRead ((get_or text start 0 - 48) * 10 + (get_or text (start + 1) 0 - 48), start + 2)
+        by false stop = short_all (reads_two text start led second stop)
+        by true third =
+            let all = leading_three text start (leads_digit (get_or text start 0) led) second third in
+            let far = three_least (get_or text start 0) (leading (drop (start + 3) text)) (get_or text (start + 1) 0) (get_or text (start + 2) 0)
+            (leads_least (get_or text start 0) led) in
+            let none = not_true_false (number_leads d last rest) (λ fits. omega (arith, far, few, subst (λ l. number l ≤ d) all (most fits))) in
+            let byte = digit_most (get_or text (start + 2) 0) third in
+            let no-colon = ne_eqb (get_or text (start + 2) 0) 58 (λ e. omega (arith, byte)) in
+            record { tested = none ∙ sym (&&_false_right _ no-colon); found = λ fits. clash fits none }
 
   -- ---- the group
 

@@ -157,6 +157,11 @@ module _ (first : ℕ) where
     unfolding value
     one_least = omega (arith, grows (0 * 10 + (first - 48)) more)
 
+    pub three_least : (second third : ℕ) → 49 ≤ first → 100 ≤ number (first ∷ second ∷ third ∷ more)
+    unfolding value
+    three_least second third h =
+        omega (arith, grows (((0 * 10 + (first - 48)) * 10 + (second - 48)) * 10 + (third - 48)) more)
+
     four_least : (second third fourth : ℕ) → 49 ≤ first → 1000 ≤ number (first ∷ second ∷ third ∷ fourth ∷ more)
     unfolding value
     four_least second third fourth h =

@@ -1,14 +1,14 @@
 -- What a file that was accepted gives the layers above: the table serves, the parameters are in their ranges, and what its ceilings are.
 -- Assumes nothing.
-use mathlib.Core.Path.{◌≡◌, refl, sym, ◌∙◌, ap, subst}
+use mathlib.Core.Path.{◌≡◌, refl, sym, ◌∙◌, ap, subst, subst₂}
 use mathlib.Core.Logic.{◌↔◌}
 use mathlib.Core.List.{List}
-use Prim.Native.Nat.{ℕ, ◌≤◌, ◌<◌}
+use Prim.Native.Nat.{ℕ, zero, suc, ◌≤◌, ◌<◌}
 use native.Mathlib.Nat.{le_trans, mul-le-mul_right}
 use native.Mathlib.Omega.{arith}
 use lib.IntN.{pos, nat_abs}
 use lib.ListN.{length, get_or, take, drop}
-use lib.Seq.{take_all}
+use lib.Seq.{get_or-take, length-take-le, take_all}
 use Rattle.std.proofs.Common.{Result, Ok}
 use Rattle.std.proofs.Math.Seq.{take-append_seam}
 use Rattle.integers.proofs.Laws.Bounds.{sum_bound}
@@ -21,7 +21,7 @@ use Rattle.training_file.specs.Parameters.{Ranges, ceiling_most, records_most}
 use Rattle.training_file.specs.Item.{item_in}
 use Rattle.reading.specs.Reading.{Reading, refused, accepted, reading}
 use Rattle.reading.proofs.Laws.Reading.{accepted_is}
-use Rattle.reading.specs.Calls.{Tabled, items_in, order_in, file_answer, table_after}
+use Rattle.reading.specs.Calls.{items_in, order_in, file_answer, table_after}
 use Rattle.reading.proofs.Laws.Calls.{table_serves}
 use Rattle.reading.proofs.Laws.Reading.Accepted.{label_at, accepted_ranges, items_counted, items_most, item_features_most}
 use Rattle.dual_problem.specs.Kernel.{FeaturesInRange}
@@ -79,48 +79,89 @@ accepted_listed file p order items e =
       in_range = subst (λ x. FeaturesInRange (items_in x)) (sym e) (features_in_range file p order items e);
     }
 
+-- a table of a place for each record that can be stored serves for every item, and there is none in a file that is refused
+pub reading_listed : (file table : List ℕ) → length table ≡ records_most → Listed file (table_after (reading file) table) (length (items_in (reading file)))
+reading_listed file table long = by (reading file) refl
+  where
+    by : (r : Reading) → reading file ≡ r → Listed file (table_after (reading file) table) (length (items_in (reading file)))
+    by (refused why) e =
+        let none : length (items_in (reading file)) ≡ 0 = ap (λ x. length (items_in x)) e in
+        record { few = omega arith; counted = refl; tabled = λ i l. absurd (omega arith); in_range = λ i l. absurd (omega arith) }
+    by (accepted p order items) e =
+        let listed = accepted_listed file p order items e in
+        let order_is : length (order_in (reading file)) ≡ length order = ap (λ x. length (order_in x)) e in
+        record {
+          few = omega (arith, listed.few, listed.counted);
+          counted = refl;
+          tabled = λ i l. table_serves file table i (omega (arith, listed.few)) (omega (arith, listed.counted));
+          in_range = listed.in_range;
+        }
+
+-- an answer that accepts has the number of the items, and parameters in their ranges
+pub answer_accepted : (file : List ℕ) {answer : Result (Parameters × ℕ) Refusal} {p : Parameters} {n : ℕ} → answer ≡ file_answer (reading file) → answer ≡ Ok (p, n)
+    → (length (items_in (reading file)) ≡ n) × Ranges p
+answer_accepted file {answer} {p} {n} = by (reading file) refl
+  where
+    by : (r : Reading) → reading file ≡ r → answer ≡ file_answer r → answer ≡ Ok (p, n) → (length (items_in r) ≡ n) × Ranges p
+    by (refused why) f told e = cc
+    by (accepted p' order items) f told e =
+        let a = accepted_is file p' order items f in
+        let both : ◌≡◌ {A = Parameters × ℕ} (p', length order) (p, n) = cc in
+        let parameters : p' ≡ p = ap (λ (x : Parameters × ℕ). x.0) both in
+        let count : length order ≡ n = ap (λ (x : Parameters × ℕ). x.1) both in
+        (items_counted file p' order items a ∙ count, subst Ranges parameters (accepted_ranges file p' order items a))
+
+-- a table that serves for n items has as many places
+listed_long : (file order : List ℕ) (n : ℕ) → Listed file order n → n ≤ length order
+listed_long file order zero listed = omega arith
+listed_long file order (suc m) listed = (listed.tabled m (omega arith)).held
+
+-- cut to these places it is what a `FileProblem` asks of its order, which so asks no more of a table than `Listed` does
+pub listed_cut : (file order : List ℕ) (n : ℕ) → Listed file order n → Listed file (take n order) (length (take n order))
+listed_cut file order n listed =
+    let cut : length (take n order) ≡ n = length-take-le n order (listed_long file order n listed) in
+    record {
+      few = omega (arith, listed.few);
+      counted = cut ∙ listed.counted;
+      tabled = λ i l.
+          let place : i < n = omega arith in
+          let of_table = listed.tabled i place in
+          record { counted = of_table.counted; held = l; same = get_or-take n order i 0 place ∙ of_table.same };
+      in_range = listed.in_range;
+    }
+
 -- where it is accepted, its order is in the first places of the table, which has a place for each record that can be stored
 module _ (file table : List ℕ) {after : List ℕ} {answer : Result (Parameters × ℕ) Refusal} {p : Parameters} {n : ℕ}
     (told : answer ≡ file_answer (reading file)) (left : after ≡ table_after (reading file) table) (long : length table ≡ records_most) (is : answer ≡ Ok (p, n)) where
-  table_accepted : (r : Reading) → reading file ≡ r → file_answer r ≡ Ok (p, n) → (n ≤ records_most) × (length (order_in r) ≡ n) × (r ≡ accepted p (take n (table_after r table)) (items_in r))
-  table_accepted (refused why) f e = cc
-  table_accepted (accepted p' order items) f e =
-      let a = accepted_is file p' order items f in
-      let both : ◌≡◌ {A = Parameters × ℕ} (p', length order) (p, n) = cc in
-      let parameters : p' ≡ p = ap (λ (x : Parameters × ℕ). x.0) both in
-      let count : length order ≡ n = ap (λ (x : Parameters × ℕ). x.1) both in
-      let few : length order ≤ records_most = omega (arith, items_counted file p' order items a, items_most file p' order items a) in
-      let fits : length order ≤ length table = omega arith in
-      let all : n ≡ length order = sym count in
-      let order_is : take n (table_after (accepted p' order items) table) ≡ order =
-      rw (all, take_all (length table) order fits) (take-append_seam order (drop (length order) table)) in
-      (omega arith, count, λ i. accepted (parameters i) (sym order_is i) items)
-
-  pub read_few : n ≤ records_most
-  read_few = (table_accepted (reading file) refl (sym told ∙ is)).0
-
-  pub read_accepted : reading file ≡ accepted p (take n after) (items_in (reading file))
-  read_accepted = subst (λ t. reading file ≡ accepted p (take n t) (items_in (reading file))) (sym left) (table_accepted (reading file) refl (sym told ∙ is)).2
-
-  pub read_ranges : Ranges p
-  read_ranges = accepted_ranges file p (take n after) (items_in (reading file)) (accepted_is file p (take n after) (items_in (reading file)) read_accepted)
-
-  pub read_listed : Listed file (take n after) (length (take n after))
-  read_listed = accepted_listed file p (take n after) (items_in (reading file)) read_accepted
-
   -- so what `order` answers and leaves is all that a call on the items asks
   pub order_listed : Listed file after n × Ranges p
   order_listed =
-      let counted = (table_accepted (reading file) refl (sym told ∙ is)).1 in
-      let order_is : length (order_in (reading file)) ≡ length (take n after) = ap (λ r. length (order_in r)) read_accepted in (
-        record {
-          few = read_few;
-          counted = omega (arith, read_listed.counted);
-          tabled = λ i l. subst (λ t. Tabled file t i) (sym left) (table_serves file table i (omega (arith, read_few)) (omega arith));
-          in_range = read_listed.in_range;
-        },
-        read_ranges,
-      )
+      let are = answer_accepted file told is in
+      (subst₂ (Listed file) (sym left) are.0 (reading_listed file table long), are.1)
+
+  pub read_few : n ≤ records_most
+  read_few = order_listed.0.few
+
+  pub read_ranges : Ranges p
+  read_ranges = order_listed.1
+
+  pub read_listed : Listed file (take n after) (length (take n after))
+  read_listed = listed_cut file after n order_listed.0
+
+  table_accepted : (r : Reading) → reading file ≡ r → file_answer r ≡ Ok (p, n) → r ≡ accepted p (take n (table_after r table)) (items_in r)
+  table_accepted (refused why) f e = cc
+  table_accepted (accepted p' order items) f e =
+      let both : ◌≡◌ {A = Parameters × ℕ} (p', length order) (p, n) = cc in
+      let parameters : p' ≡ p = ap (λ (x : Parameters × ℕ). x.0) both in
+      let count : length order ≡ n = ap (λ (x : Parameters × ℕ). x.1) both in
+      let fits : length order ≤ length table = omega (arith, read_few) in
+      let all : n ≡ length order = sym count in
+      let order_is : take n (table_after (accepted p' order items) table) ≡ order =
+      rw (all, take_all (length table) order fits) (take-append_seam order (drop (length order) table)) in
+      λ i. accepted (parameters i) (sym order_is i) items
+
+  pub read_accepted : reading file ≡ accepted p (take n after) (items_in (reading file))
+  read_accepted = subst (λ t. reading file ≡ accepted p (take n t) (items_in (reading file))) (sym left) (table_accepted (reading file) refl (sym told ∙ is))
 
 -- the problem that reading gives has parameters in their ranges
 pub read_as_ranges : (file : List ℕ) (answer : Result FileProblem Refusal) (f : FileProblem) → ReadAs file answer → answer ≡ Ok f → Ranges f.parameters

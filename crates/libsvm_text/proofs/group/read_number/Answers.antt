@@ -1,25 +1,38 @@
--- `libsvm_text::group::read_number` meets its contract. Assumes nothing.
-use mathlib.Core.Path.{refl}
-use native.Mathlib.Omega.{arith}
-use borrow.Author.Tests.{eq-eqb, le-leb, lt-ltb}
-use lib.ListN.{drop, length}
-use Rattle.integers.proofs.Laws.Truth.{&&_true}
-use Rattle.libsvm_text.specs.Read.{leading}
-use Rattle.libsvm_text.proofs.Laws.Group.{number_found, number_none}
-use Rattle.libsvm_text.proofs.Laws.Groups.{digits_within}
+-- `libsvm_text::group::read_number` meets its contract, by the count of digits. Assumes nothing.
+use mathlib.Core.Path.{sym, ◌∙◌}
+use borrow.Author.Tests.{eq-eqb, le-leb, le-ltb, lt-leb, lt-ltb, ne_eqb}
+use Rattle.integers.proofs.Laws.Truth.{&&_false_left, &&_false_right, &&_true}
+use Rattle.libsvm_text.proofs.Laws.Group.{ShortRead, number_none, short_one, short_two}
 use Rattle.libsvm_text.proofs.group.read_number.Goals as goal
+use Rattle.libsvm_text.proofs.group.read_number.Goals.{then-is_ascii_digit, else-is_ascii_digit}
+use Rattle.libsvm_text.proofs.group.read_number.Goals.{else-last-number-via-then-last-number+then-number-used+else-text-end-eq58, else-last-number-via-then-last-number+else-number-used, else-last-number-via-else-last-number}
 
-pub returns-in_err-digits : goal.returns-in_err-digits
-returns-in_err-digits c =
-    rw c.from_residual.ensures (number_none c.args.from.used c.args.last c.args.from.text.now c.args.from.at c.in_err-digits.ensures)
+pub returns-then-not-is_leading : goal.returns-then-not-is_leading
+returns-then-not-is_leading c = number_none c.args.from.used c.args.last c.args.from.text.now c.args.from.at (sym c.if-not-is_leading.ensures)
 
-pub bounds-text-digits : goal.bounds-text-digits
-bounds-text-digits c =
-    let within = digits_within c.args.from.text.now c.args.from.at (length (leading (drop c.args.from.at c.args.from.text.now)))
-    (record { ends = c.args.from.ends; place = c.args.from.within }) refl in
-    omega (arith, within.place, c.in_ok-digits.ensures.end_is)
+pub returns-then-text-end-eq58 : goal.returns-then-text-end-eq58
+returns-then-text-end-eq58 c =
+    let led = sym c.if-not-is_leading.ensures in
+    let short : ShortRead c.args.from.used c.args.last c.args.from.text.now c.args.from.at c.if-is_ascii_digit.number =
+    elim c.if-is_ascii_digit.branch [
+      | then-is_ascii_digit w ↦ short_two _ _ _ _ led c.args.from.few (sym c.is_ascii_digit.ensures.value ∙ w.if-is_ascii_digit.true) w.number-is
+      | else-is_ascii_digit w ↦ short_one _ _ _ _ led (sym c.is_ascii_digit.ensures.value ∙ w.if-is_ascii_digit.false) w.number-is
+    ] in
+    short.found (
+    short.tested
+    ∙ &&_true (&&_true (lt-ltb _ _ c.if-last-number.true) (le-leb _ _ c.if-number-used.true)) (eq-eqb _ 58 c.if-text-end-eq58.true))
 
-pub returns-then-text-digits-eq58 : goal.returns-then-text-digits-eq58
-returns-then-text-digits-eq58 c =
-    number_found c.args.from.used c.args.last c.args.from.text.now c.args.from.at c.in_ok-digits.ensures c.in_ok-number.was
-    (&&_true (&&_true (lt-ltb _ _ c.if-last-number.true) (le-leb _ _ c.if-number-used.true)) (eq-eqb _ 58 c.if-text-digits-eq58.true))
+pub returns-else-last-number : goal.returns-else-last-number
+returns-else-last-number c =
+    let led = sym c.if-not-is_leading.ensures in
+    let short : ShortRead c.args.from.used c.args.last c.args.from.text.now c.args.from.at c.if-is_ascii_digit.number =
+    elim c.if-is_ascii_digit.branch [
+      | then-is_ascii_digit w ↦ short_two _ _ _ _ led c.args.from.few (sym c.is_ascii_digit.ensures.value ∙ w.if-is_ascii_digit.true) w.number-is
+      | else-is_ascii_digit w ↦ short_one _ _ _ _ led (sym c.is_ascii_digit.ensures.value ∙ w.if-is_ascii_digit.false) w.number-is
+    ] in
+    short.tested
+    ∙ elim c.else-last-number.branch [
+      | else-last-number-via-then-last-number+then-number-used+else-text-end-eq58 w ↦ &&_false_right _ (ne_eqb _ 58 w.if-text-end-eq58.false)
+      | else-last-number-via-then-last-number+else-number-used w ↦ &&_false_left _ (&&_false_right _ (lt-leb _ _ w.if-number-used.false))
+      | else-last-number-via-else-last-number w ↦ &&_false_left _ (&&_false_left _ (le-ltb _ _ w.if-last-number.false))
+    ]

@@ -1,40 +1,28 @@
 -- `last_items::hashed::Hashed::repeats` meets its contract. Assumes nothing.
-use Rattle.std.proofs.Common.{List, ℕ, Bool, nat_eq, ◌∙◌, sym, ap₂, rules, tests}
-use Rattle.std.specs.List.{filter, list_any, zip}
-use Rattle.std.proofs.lemmas.Iterator.{YieldsList-from_slice, YieldsList-from_zip}
+use Rattle.std.proofs.Common.{ℕ, Bool, ◌∙◌, sym, ap₂, rules, tests}
+use Rattle.std.proofs.lemmas.Iterator.{YieldsList-from_slice}
 use Rattle.std.proofs.lemmas.Iterator.Adapters.{serves_from_places}
-use Rattle.std.proofs.lemmas.Iterator.Consumers.{YieldsList-from_filter}
 use Rattle.std.proofs.lemmas.Iterator.Search.{any_from_yields_List}
 use Rattle.integers.specs.Member.{member}
 use native.Mathlib.Omega.{arith}
 use Rattle.training_file.specs.Layout.{feature_count}
 use Rattle.training_file.specs.Record.{item_at}
 use Rattle.last_items.specs.Last.{same_features}
-use Rattle.last_items.proofs.Laws.Kept.{member_any, repeated_hashed, stored_hashed, unhashed}
+use Rattle.last_items.proofs.Laws.Kept.{member_any, repeated_any, stored_item, unhashed}
 use Rattle.last_items.proofs.hashed.Hashed.repeats.Goals as goal
 
 pub any-requires-clause-callable : goal.any-requires-clause-callable
 any-requires-clause-callable c =
     let r = c.args.self.now.records in
-    let hashes = c.args.self.now.hashes.now in
-    let hashed : ℕ × ℕ → Bool = λ p. nat_eq p.1 c.args.hash in
-    serves_from_places
-    (YieldsList-from_filter _ hashed (YieldsList-from_zip (YieldsList-from_slice r.numbers.now cc) (YieldsList-from_slice hashes cc)) c.filter.ensures.closure
-    (λ x b q k. search (rules, tests)))
-    (λ x q k. search rules) (λ x k h e. let other = stored_hashed hashed _ r.numbers.now hashes r.stored (x.0.now, x.1.now) k h e in search rules)
+    serves_from_places (YieldsList-from_slice r.numbers.now cc) (λ x q k. search rules)
+    (λ x k h e. let other = stored_item r.file.now r.numbers.now r.stored h e in search rules)
 
 pub returns-then-contains : goal.returns-then-contains
 returns-then-contains c =
     let r = c.args.self.now.records in
-    let hashes = c.args.self.now.hashes.now in
-    let hashed : ℕ × ℕ → Bool = λ p. nat_eq p.1 c.args.hash in
-    let test : ℕ × ℕ → Bool = λ p. same_features feature_count (item_at c.args.file.now c.args.number) (item_at r.file.now p.0) in
-    any_from_yields_List test c.any.new.self _ _ c.any.ensures.ran
-    (YieldsList-from_filter _ hashed (YieldsList-from_zip (YieldsList-from_slice r.numbers.now cc) (YieldsList-from_slice hashes cc)) c.filter.ensures.closure
-    (λ x b q k. search (rules, tests)))
-    (λ x b q k. search (rules, tests))
-    ∙ ap₂ (λ (hash : ℕ) (hashes : List ℕ). list_any test (filter (λ (p : ℕ × ℕ). nat_eq p.1 hash) (zip r.numbers.now hashes))) c.requires.hashed c.args.self.now.hashed
-    ∙ repeated_hashed c.args.file.now (λ i. let small = c.type_inv.file i in omega arith) c.args.number c.requires.stored r.file.now r.bytes r.numbers.now r.stored
+    let test : ℕ → Bool = λ number. same_features feature_count (item_at c.args.file.now c.args.number) (item_at r.file.now number) in
+    any_from_yields_List test c.any.new.self _ _ c.any.ensures.ran (YieldsList-from_slice r.numbers.now cc) (λ x b q k. search (rules, tests))
+    ∙ repeated_any feature_count (item_at c.args.file.now c.args.number) r.file.now r.numbers.now
 
 pub returns-else-contains : goal.returns-else-contains
 returns-else-contains c =
