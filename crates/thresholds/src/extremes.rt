@@ -79,13 +79,11 @@ impl Extremes {
     }
 }
 
-// One pass over the items for both, with G of each from a list; of equal values the one found first stays, where `max_by` keeps the last. It goes
-// over a copy of the problem, as `weighed_sum` does.
+// One pass over the items for both, with G of each from a list; of equal values the one found first stays, where `max_by` keeps the last.
 pub fn find_extremes(problem: &FileProblem, multipliers: &[u32], gradient: &[i64]) -> Extremes
     requires { (count_in problem.now ≤ length multipliers.now) × (count_in problem.now ≤ length gradient.now) }
     ensures { result ≡ extremes_in problem.now multipliers.now gradient.now }
 {
-    let problem = *problem;
     let mut low: Option<Best> = None;
     let mut up: Option<Best> = None;
     for place in 0..problem.count() {

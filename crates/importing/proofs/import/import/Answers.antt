@@ -159,20 +159,20 @@ returns-in_err-judged c =
 pub returns-then-judged-gt-MAX_RECORDS : goal.returns-then-judged-gt-MAX_RECORDS
 returns-then-judged-gt-MAX_RECORDS c =
     let comes = refused_12 c.args.parameters c.args.text.now c.args.output.now (sym c.allowed.ensures ∙ c.if-not-allowed.false)
-    c.in_ok-judged.ensures c.if-judged-gt-MAX_RECORDS.true in
+    c.in_ok-judged.ensures (omega arith) in
     record { answer = comes.0; output = comes.1 }
 
 pub returns-in_err-looked_up : goal.returns-in_err-looked_up
 returns-in_err-looked_up c =
     let comes = refused_4 c.args.parameters c.args.text.now c.args.output.now (sym c.allowed.ensures ∙ c.if-not-allowed.false)
-    c.in_ok-judged.ensures c.if-judged-gt-MAX_RECORDS.false c.in_err-looked_up.ensures.value in
+    c.in_ok-judged.ensures (omega arith) c.in_err-looked_up.ensures.value in
     let passed = err_from_is_err_and c.from_residual-in_err-looked_up.result c.from_residual-in_err-looked_up.ensures.1 in
     record { answer = rw (passed.1, passed.2) comes.0; output = comes.1 }
 
 pub returns-then-looked_up-eq0 : goal.returns-then-looked_up-eq0
 returns-then-looked_up-eq0 c =
     let a = sym c.allowed.ensures ∙ c.if-not-allowed.false in
-    let few = c.if-judged-gt-MAX_RECORDS.false in
+    let few : c.in_ok-judged.judged.lines ≤ records_most = omega arith in
     let comes = elim c.then-looked_up-eq0.branch as (λ w. Comes (importing c.args.parameters c.args.text.now (length c.args.output.now)) c.args.output.now (Err refusal.Labels) c.args.output.now) [
       | then-looked_up-eq0-via-then-looked_up-eq0 w ↦ none _ _ _ a c.in_ok-judged.ensures few c.in_ok-looked_up.ensures.value w.if-looked_up-eq0.true
       | then-looked_up-eq0-via-else-looked_up-eq0+then-looked_up-judged w ↦ all _ _ _ a c.in_ok-judged.ensures few c.in_ok-looked_up.ensures.value w.if-looked_up-judged.true
@@ -182,14 +182,14 @@ returns-then-looked_up-eq0 c =
 pub returns-in_err-length : goal.returns-in_err-length
 returns-in_err-length c =
     let comes = refused_10 c.args.parameters c.args.text.now c.args.output.now (sym c.allowed.ensures ∙ c.if-not-allowed.false)
-    c.in_ok-judged.ensures c.if-judged-gt-MAX_RECORDS.false c.in_ok-looked_up.ensures.value c.if-looked_up-eq0.false c.if-looked_up-judged.false c.in_err-length.ensures in
+    c.in_ok-judged.ensures (omega arith) c.in_ok-looked_up.ensures.value c.if-looked_up-eq0.false c.if-looked_up-judged.false c.in_err-length.ensures in
     let passed = err_from_is_err_and c.from_residual-in_err-length.result c.from_residual-in_err-length.ensures.1 in
     record { answer = rw (passed.1, passed.2) comes.0; output = comes.1 }
 
 pub put_header-requires : goal.put_header-requires
 put_header-requires c =
     let a = sym c.allowed.ensures ∙ c.if-not-allowed.false in
-    let few = c.if-judged-gt-MAX_RECORDS.false in
+    let few : c.in_ok-judged.judged.lines ≤ records_most = omega arith in
     let e = fits c.args.parameters c.args.text.now c.args.output.now a c.in_ok-judged.ensures few c.in_ok-looked_up.ensures.value c.in_ok-length.ensures in
     let space = room c.args.parameters c.args.text.now c.args.output.now a c.in_ok-judged.ensures few c.in_ok-looked_up.ensures.value refl refl e in
     record { room = room_first (header_bytes _ c.args.parameters) (item_records _ _ _) space; most = (few, (allowed_ranges _ a).used_greatest) }
@@ -197,7 +197,7 @@ put_header-requires c =
 pub put_lines-requires : goal.put_lines-requires
 put_lines-requires c =
     let a = sym c.allowed.ensures ∙ c.if-not-allowed.false in
-    let few = c.if-judged-gt-MAX_RECORDS.false in
+    let few : c.in_ok-judged.judged.lines ≤ records_most = omega arith in
     let e = fits c.args.parameters c.args.text.now c.args.output.now a c.in_ok-judged.ensures few c.in_ok-looked_up.ensures.value c.in_ok-length.ensures in
     let space = room c.args.parameters c.args.text.now c.args.output.now a c.in_ok-judged.ensures few c.in_ok-looked_up.ensures.value refl refl e in
     record {
@@ -208,7 +208,7 @@ put_lines-requires c =
 pub returns : goal.returns
 returns c =
     let a = sym c.allowed.ensures ∙ c.if-not-allowed.false in
-    let few = c.if-judged-gt-MAX_RECORDS.false in
+    let few : c.in_ok-judged.judged.lines ≤ records_most = omega arith in
     let e = fits c.args.parameters c.args.text.now c.args.output.now a c.in_ok-judged.ensures few c.in_ok-looked_up.ensures.value c.in_ok-length.ensures in
     let comes = written c.args.parameters c.args.text.now c.args.output.now a c.in_ok-judged.ensures few c.in_ok-looked_up.ensures.value
     c.if-looked_up-eq0.false c.if-looked_up-judged.false refl refl e c.in_ok-length.ensures (put_then c.put_header.ensures c.put_lines.ensures) in
